@@ -1,0 +1,7 @@
+pub mod Rows
+pub mod Refusals
+pub mod Finds
+pub mod Held
+pub mod Views
+pub mod Laws
+pub mod Measure

@@ -1,0 +1,4 @@
+pub mod Count
+mod Each
+pub mod Sublists
+mod Table
