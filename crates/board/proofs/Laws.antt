@@ -75,16 +75,17 @@ lawful-net held net g =
       lock = λ letter e. ltb-true letter (held .fpics) (sym (ap (lockWithin (held .fpics)) e) ∙ parts .1);
     }
 
-pub lawful : (held : Held) → inLimits (held .chips) (held .fpics) (held .pins) ≡ true →
+pub lawful : (held : Held) → inLimits (held .chips) (held .fpics) (held .pins) ≡ true → length (held .rows) ≡ 128 →
     ((i : ℕ) → goodRow (held .chips) (held .fpics) (getD (held .rows) i None) ≡ true) →
     ((chip : ℕ) → load chip (held .rows) ≤ held .fpics * held .pins) → Lawful held
-lawful held sized good loads =
+lawful held sized long good loads =
     let s = and-parts (leb 2 (held .chips) && leb (held .chips) 32) ((leb 1 (held .fpics) && leb (held .fpics) 8) && (leb 1 (held .pins) && leb (held .pins) 4)) sized in
     let t = and-parts (leb 1 (held .fpics) && leb (held .fpics) 8) (leb 1 (held .pins) && leb (held .pins) 4) (s .1) in
     record {
       chips = between 2 32 (held .chips) (s .0);
       fpics = between 1 8 (held .fpics) (t .0);
       pins = between 1 4 (held .pins) (t .1);
+      numbers = long;
       nets = λ number net e. lawful-net held net (sym (ap (goodRow (held .chips) (held .fpics)) e) ∙ good (number - 1));
       loads = loads;
     }

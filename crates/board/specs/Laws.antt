@@ -2,6 +2,7 @@
 use mathlib.Core.Bool.{true}
 use mathlib.Core.Path.{_≡_}
 use Prim.Native.Nat.{ℕ, _*_, _<_, _≤_}
+use lib.ListN.{length}
 use Rattle.std.specs.declared.option.Option.{Option}
 use Rattle.std.specs.declared.option.Option.the-variants.{Some, None}
 use Rattle.board.specs.Held.{Held}
@@ -14,11 +15,12 @@ pub record LawfulNet (held : Held) (net : Net) : Type 0 where
   pub ends : (chip : ℕ) → hasEnd (net .ends) chip ≡ true → (1 ≤ chip) × (chip ≤ held .chips)
   pub lock : (letter : ℕ) → net .lock ≡ Some letter → letter < held .fpics
 
--- what holds of every board that exists
+-- what holds of every board that exists; there is a row for each net number from 1 to 128
 pub record Lawful (held : Held) : Type 0 where
   pub chips : (2 ≤ held .chips) × (held .chips ≤ 32)
   pub fpics : (1 ≤ held .fpics) × (held .fpics ≤ 8)
   pub pins : (1 ≤ held .pins) × (held .pins ≤ 4)
+  pub numbers : length (held .rows) ≡ 128
   pub nets : (number : ℕ) (net : Net) → rowOf (held .rows) number ≡ Some net → LawfulNet held net
   pub loads : (chip : ℕ) → load chip (held .rows) ≤ held .fpics * held .pins
 

@@ -1,9 +1,8 @@
-// One edit of a board with what came of it, and how steps and sizes are shown.
+// One edit of a board with what came of it, and how it is shown.
 ghost use mathlib.Core.Path.{_≡_};
 ghost use Rattle.board.specs.Held.{after, answer, judged};
 ghost use Rattle.board.specs.Views.{heldOpen};
 use board::Edit;
-use board::Measure;
 use board::OpenBoard;
 use board::Refusal;
 use std::fmt;
@@ -83,22 +82,5 @@ pub impl fmt::Display for Step as StepDisplay {
                 write!(f, "refused {number}")
             }
         }
-    }
-}
-
-#[derive(Drop)]
-pub struct Size(pub Measure);
-
-pub impl fmt::Display for Size as SizeDisplay {
-    fn fmt<W: fmt::Write>(&self, f: &mut fmt::Formatter<W>) -> fmt::Result {
-        let Measure {
-            variables,
-            clauses,
-            literals,
-        } = self.0;
-        write!(
-            f,
-            "{variables} variables, {clauses} clauses, {literals} literals"
-        )
     }
 }

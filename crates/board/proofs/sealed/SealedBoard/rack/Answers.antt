@@ -7,5 +7,5 @@ pub returns : need.returns
 returns c =
     record {
       same = refl;
-      lawful = lawful (heldIn (c .args .self .now .rack)) (c .args .self .now .rack .sized) (c .args .self .now .rack .good) (c .args .self .now .rack .loads);
+      lawful = lawful (heldIn (c .args .self .now .rack)) (c .args .self .now .rack .sized) (c .args .self .now .rack .table .long) (c .args .self .now .rack .good) (c .args .self .now .rack .loads);
     }

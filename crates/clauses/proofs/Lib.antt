@@ -1,0 +1,10 @@
+pub mod Assembly
+pub mod Filling
+pub mod Ends
+pub mod Joins
+pub mod Sealed
+pub mod Ranks
+pub mod Sets
+pub mod Spelling
+pub mod Totals
+pub mod Variables

@@ -1,0 +1,4 @@
+pub mod Below
+pub mod Fixes
+pub mod Lists
+pub mod Steps

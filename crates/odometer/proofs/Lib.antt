@@ -1,0 +1,4 @@
+pub mod Answering
+pub mod Clauses
+pub mod Counts
+pub mod Literals

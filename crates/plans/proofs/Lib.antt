@@ -1,0 +1,16 @@
+pub mod Elements
+pub mod Encoding
+pub mod Few
+pub mod Ranges
+pub mod Letters
+pub mod Blocks
+pub mod Ranks
+pub mod Sharing
+pub mod Meaning
+pub mod Faithful
+pub mod Counted
+pub mod Order
+pub mod Legality
+pub mod WellFormed
+pub mod Assumed
+pub mod Board

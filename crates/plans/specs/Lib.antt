@@ -1,0 +1,4 @@
+pub mod Nets
+pub mod Plans
+pub mod Clauses
+pub mod Laws

@@ -1,0 +1,12 @@
+pub mod Agreement
+pub mod Answering
+pub mod Assuming
+pub mod Boundaries
+pub mod Counting
+pub mod Finding
+pub mod Literals
+pub mod Meaning
+pub mod Places
+pub mod Slots
+pub mod Steps
+pub mod Telling

@@ -1,0 +1,4 @@
+pub mod Clauses
+pub mod Edits
+pub mod Rounds
+pub mod Values

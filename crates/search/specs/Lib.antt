@@ -1,0 +1,4 @@
+pub mod Answers
+pub mod Moods
+pub mod States
+pub mod Suiting
