@@ -14,7 +14,7 @@ after c =
     simp to_z-of_z at (ap (λ v. v.slots) c.assign.ensures)
 
 found : (c : goal.After-assign) → Finds c.loop-literal.values.slots (clauses_of c.args.formula.now) (Forced c.in-Forced.literal)
-found c = subst (Finds c.loop-literal.values.slots (clauses_of c.args.formula.now)) c.in-Forced.is c.look-around-round.ensures.finds
+found c = subst (Finds c.loop-literal.values.slots (clauses_of c.args.formula.now)) c.in-Forced.is c.look_around-round.ensures.finds
 
 pub loop-literal-smaller : goal.loop-literal-smaller
 loop-literal-smaller c =

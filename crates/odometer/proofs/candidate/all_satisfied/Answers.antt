@@ -25,7 +25,7 @@ loop-z-preserved c =
           (zero_is z f w.if-z-eq0.true) w.if-not-satisfied.false w.satisfied-is
       | else-z-eq0+then-not-satisfied-2 w ↦
           literal c.if-z-eq0.satisfied c.loop-z-test.true (nonzero_is z w.if-z-eq0.false)
-          (w.satisfied-is ∙ (simp to_z-of_z at w.is-true-satisfied.ensures ∙ sym (ap (λ b. b || is_true c.args.values.now z) w.if-not-satisfied-2.true)))
+          (w.satisfied-is ∙ (simp to_z-of_z at w.is_true-satisfied.ensures ∙ sym (ap (λ b. b || is_true c.args.values.now z) w.if-not-satisfied-2.true)))
       | else-z-eq0+else-not-satisfied-2 w ↦
           literal c.if-z-eq0.satisfied c.loop-z-test.true (nonzero_is z w.if-z-eq0.false)
           (w.satisfied-is ∙ (w.if-not-satisfied-2.false ∙ sym (ap (λ b. b || is_true c.args.values.now z) w.if-not-satisfied-2.false)))

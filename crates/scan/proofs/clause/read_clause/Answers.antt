@@ -40,7 +40,7 @@ loop-i-preserved c =
           ∙ sym (resumed_more c.args.numbers.now c.loop-i.i c.args.values.now.slots c.loop-i.standing False c.loop-i-test.true c.if-literal-eq0.false f w.in-False.ensures)
           ∙ c.loop-i.invariant
       | in-Open w ↦
-          let e : w.with-open-standing.result ≡ with_open c.loop-i.standing (get_or c.args.numbers.now c.loop-i.i (pos 0)) = simp to_z-of_z at w.with-open-standing.ensures in
+          let e : w.with_open-standing.result ≡ with_open c.loop-i.standing (get_or c.args.numbers.now c.loop-i.i (pos 0)) = simp to_z-of_z at w.with_open-standing.ensures in
           ap (λ s. resumed c.args.values.now.slots s (c.loop-i.i + 1) rest) (w.standing-is ∙ e)
           ∙ sym (resumed_more c.args.numbers.now c.loop-i.i c.args.values.now.slots c.loop-i.standing Open c.loop-i-test.true c.if-literal-eq0.false f w.in-Open.ensures)
           ∙ c.loop-i.invariant

@@ -5,14 +5,14 @@ use Rattle.forcing.specs.Fixing.{Lists}
 use Rattle.forcing.proofs.Below.{none_from_judged, taken_from_none, solved_answered, answered_below}
 use Rattle.forcing.proofs.layer.ForcingSolver.solve.Goals as goal
 
-pub slice-bounds-solve-end : goal.slice-bounds-solve-end
-slice-bounds-solve-end g c = c.in-Some-fix.ensures.fixes.0
+pub slice_bounds-solve-end : goal.slice_bounds-solve-end
+slice_bounds-solve-end g c = c.in-Some-fix.ensures.fixes.0
 
 pub returns-in-Some-fix : goal.returns-in-Some-fix
 returns-in-Some-fix g c =
     let none =
     none_from_judged (min 1024 (g.S.Solver.largest c.args.self.now.below)) c.args.variables c.args.formula.now c.args.assumed.now (length c.args.valuation.now)
-    c.largest-largest.result c.judge.result c.largest-largest.ensures c.judge.ensures c.in-default.is in
+    c.largest-largest.result c.judge.result c.largest-largest.ensures c.judge.ensures c.in_default.is in
     let whole : c.in-Some-fix.count - 0 ≡ c.in-Some-fix.count = omega arith in
     let lists : Lists c.args.variables c.args.formula.now c.args.assumed.now (take (c.in-Some-fix.count - 0) c.fix.new.room) =
     subst (λ n. Lists c.args.variables c.args.formula.now c.args.assumed.now (take n c.fix.new.room)) (sym whole) c.in-Some-fix.ensures.fixes.1 in
@@ -27,7 +27,7 @@ pub returns-in-None : goal.returns-in-None
 returns-in-None g c =
     let none =
     none_from_judged (min 1024 (g.S.Solver.largest c.args.self.now.below)) c.args.variables c.args.formula.now c.args.assumed.now (length c.args.valuation.now)
-    c.largest-largest.result c.judge.result c.largest-largest.ensures c.judge.ensures c.in-default.is in
+    c.largest-largest.result c.judge.result c.largest-largest.ensures c.judge.ensures c.in_default.is in
     let taken = taken_from_none (min 1024 (g.S.Solver.largest c.args.self.now.below)) c.args.variables c.args.formula.now c.args.assumed.now (length c.args.valuation.now) none in
     let whole : length (take (c.args.variables - 0) c.args.valuation.now) ≡ c.args.variables = length-take-le (c.args.variables - 0) c.args.valuation.now (omega (arith, taken.fits)) ∙ omega arith in
     let zeros : c.fill.new.self ≡ replicate c.args.variables 0 = c.fill.ensures.after (λ y e. e) ∙ ap (λ n. replicate n 0) whole in

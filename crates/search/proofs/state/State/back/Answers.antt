@@ -20,8 +20,8 @@ loop-self-preserved c = (
       ∙ c.loop-self.invariant.1,
 )
 
-pub overflow-sub-literal : goal.overflow-sub-literal
-overflow-sub-literal c =
+pub overflow_sub-literal : goal.overflow_sub-literal
+overflow_sub-literal c =
     let n : _ = choice_names c.loop-self.self c.loop-self.invariant.0 c.loop-self-test.true c.in-Choice.literal (sym c.in-Choice.ensures.answers) in
     neg_fits c.in-Choice.literal (search rules) (omega (arith, n.1, c.loop-self.invariant.0.0.bounded))
 
