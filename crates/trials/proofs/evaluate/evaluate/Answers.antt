@@ -5,12 +5,12 @@ pub returns-then-valuation-variables : goal.returns-then-valuation-variables
 returns-then-valuation-variables c =
     decides_false _ (too_short c.args.variables c.args.formula.now c.args.assumed.now c.args.valuation.now c.if-valuation-variables.true)
 
-pub returns-then-all-bits : goal.returns-then-all-bits
-returns-then-all-bits c =
+pub returns-then-all_bits : goal.returns-then-all_bits
+returns-then-all_bits c =
     answers_decide c.args.variables c.args.formula.now c.args.assumed.now c.args.valuation.now c.answers.result c.if-valuation-variables.false
-    (c.all-bits.ensures.0 c.if-all-bits.true) c.answers.ensures
+    (c.all_bits.ensures.0 c.if-all_bits.true) c.answers.ensures
 
-pub returns-else-all-bits : goal.returns-else-all-bits
-returns-else-all-bits c =
-    bits_decide c.args.variables c.args.formula.now c.args.assumed.now c.args.valuation.now c.all-bits.result c.if-valuation-variables.false
-    c.all-bits.ensures c.if-all-bits.false
+pub returns-else-all_bits : goal.returns-else-all_bits
+returns-else-all_bits c =
+    bits_decide c.args.variables c.args.formula.now c.args.assumed.now c.args.valuation.now c.all_bits.result c.if-valuation-variables.false
+    c.all_bits.ensures c.if-all_bits.false
