@@ -5,9 +5,9 @@ use Rattle.subsets.proofs.Sublists.{length-choose}
 use Rattle.subsets.proofs.Table.{found, missing}
 use Rattle.subsets.proofs.subset_count.Goals as goal
 
-pub returns-in-err-k : goal.returns-in-err-k
-returns-in-err-k c =
-    record { counted = c.from-residual.ensures ∙ sym (missing c.args.d c.args.s c.in-err-k.ensures); sublists = length-choose }
+pub returns-in_err-k : goal.returns-in_err-k
+returns-in_err-k c =
+    record { counted = c.from_residual.ensures ∙ sym (missing c.args.d c.args.s c.in_err-k.ensures); sublists = length-choose }
 
 pub returns : goal.returns
-returns c = let placed = c.in-ok-k.ensures in record { counted = search (rules, found); sublists = length-choose }
+returns c = let placed = c.in_ok-k.ensures in record { counted = search (rules, found); sublists = length-choose }

@@ -8,19 +8,15 @@ use Rattle.board.proofs.Laws.{lowest_full_end}
 use Rattle.board.proofs.Rows.{good_kept, load_room}
 use Rattle.board.proofs.open.OpenBoard.add.Goals as goal
 
-pub invariant-of-self : goal.invariant-of-self
-invariant-of-self c =
-    let fit : are_ends c.args.self.now.rack.chips c.args.ends ≡ true = sym c.are-ends.ensures ∙ c.if-not-are-ends.false in
-    let small : c.args.ends < 2 ^ 32 = search rules in (
-      c.args.self.now.rack.sized,
-      (
-        good_kept _ _ _ _ _ _ c.enter.ensures (and_from (are_ends c.args.self.now.rack.chips c.args.ends) true fit refl) c.args.self.now.rack.good,
-        (
-          load_room _ _ _ _ _ c.enter.ensures (all_have_room _ _ c.args.ends small (sym c.lowest-full.ensures ∙ c.in-default.is)) c.args.self.now.rack.loads,
-          tt,
-        ),
-      ),
-    )
+pub invariant_of-self : goal.invariant_of-self
+invariant_of-self c =
+    let fit : are_ends c.args.self.now.rack.chips c.args.ends ≡ true = sym c.are_ends.ensures ∙ c.if-not-are_ends.false in
+    let small : c.args.ends < 2 ^ 32 = search rules in
+    record {
+      sized = c.args.self.now.rack.sized;
+      good = good_kept _ _ _ _ _ _ c.enter.ensures (and_from (are_ends c.args.self.now.rack.chips c.args.ends) true fit refl) c.args.self.now.rack.good;
+      loads = load_room _ _ _ _ _ c.enter.ensures (all_have_room _ _ c.args.ends small (sym c.lowest_full.ensures ∙ c.in_default.is)) c.args.self.now.rack.loads;
+    }
 
 pub returns-in-Some : goal.returns-in-Some
 returns-in-Some c =

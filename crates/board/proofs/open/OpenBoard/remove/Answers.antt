@@ -3,11 +3,10 @@ use Rattle.std.proofs.lemmas.Bool.{false≢true}
 use Rattle.board.proofs.Rows.{good_kept, load_kept}
 use Rattle.board.proofs.open.OpenBoard.remove.Goals as goal
 
-pub invariant-of-self : goal.invariant-of-self
-invariant-of-self c = (
-  c.args.self.now.rack.sized,
-  (
-    good_kept _ _ _ _ _ _ c.strike.ensures refl c.args.self.now.rack.good,
-    (load_kept _ _ _ _ _ c.strike.ensures (λ chip t. absurd (false≢true t)) c.args.self.now.rack.loads, tt),
-  ),
-)
+pub invariant_of-self : goal.invariant_of-self
+invariant_of-self c =
+    record {
+      sized = c.args.self.now.rack.sized;
+      good = good_kept _ _ _ _ _ _ c.strike.ensures refl c.args.self.now.rack.good;
+      loads = load_kept _ _ _ _ _ c.strike.ensures (λ chip t. absurd (false≢true t)) c.args.self.now.rack.loads;
+    }

@@ -16,8 +16,8 @@ unreachable-requires c =
 pub loop-place-init : goal.loop-place-init
 loop-place-init c = (sym (conflicts_none (c.args.self.now.pins + 1) c.args.self.now.table.rows), omega arith)
 
-pub overflow-add-total : goal.overflow-add-total
-overflow-add-total c =
+pub overflow_add-total : goal.overflow_add-total
+overflow_add-total c =
     let s = sizes c.args.self.now.chips c.args.self.now.fpics c.args.self.now.pins c.args.self.now.sized in
     omega (arith, s.0, c.loop-place.invariant.1, tabled_at_most c.load.result (c.args.self.now.pins + 1) c.in-Some.count c.in-Some.ensures.counted)
 

@@ -7,14 +7,14 @@ fits c =
     small c.count-nets.result c.args.self.now.rack.chips c.args.self.now.rack.fpics c.args.self.now.rack.pins c.conflicts-conflicts.result
     c.count-nets.ensures.bound c.args.self.now.rack.sized c.conflicts-conflicts.ensures.bound
 
-pub overflow-mul-result-4 : goal.overflow-mul-result-4
-overflow-mul-result-4 c = omega (arith, fits c)
+pub overflow_mul-result-4 : goal.overflow_mul-result-4
+overflow_mul-result-4 c = omega (arith, fits c)
 
-pub overflow-add-result-2 : goal.overflow-add-result-2
-overflow-add-result-2 c = omega (arith, fits c)
+pub overflow_add-result-2 : goal.overflow_add-result-2
+overflow_add-result-2 c = omega (arith, fits c)
 
-pub overflow-mul-result-8 : goal.overflow-mul-result-8
-overflow-mul-result-8 c = omega (arith, fits c)
+pub overflow_mul-result-8 : goal.overflow_mul-result-8
+overflow_mul-result-8 c = omega (arith, fits c)
 
-pub overflow-add-result-4 : goal.overflow-add-result-4
-overflow-add-result-4 c = omega (arith, fits c)
+pub overflow_add-result-4 : goal.overflow_add-result-4
+overflow_add-result-4 c = omega (arith, fits c)
