@@ -44,7 +44,7 @@ field = record { written = lines.field; Fits = number.Fits }
 
 -- one chip or more and the line feed
 abbrev pub chips : Piece (List ℕ)
-chips = record { written = λ cs. flat_map lines.field cs ++ lines.lineFeed; Fits = λ cs _. (1 ≤ length cs) × lines.Chips cs }
+chips = record { written = λ cs. flat_map lines.field cs ++ lines.line_feed; Fits = λ cs _. (1 ≤ length cs) × lines.Chips cs }
 
 -- a line that begins with this letter
 abbrev pub form : ℕ → Piece Line

@@ -13,34 +13,34 @@ loop-reader-init c =
     let s = c.new-reader.ensures.start in
     none_read c.args.text.now c.new-reader.result (held_open c.blank-fresh.result) (ap (λ n. drop n c.new-reader.result.text.now) s.0 ∙ t) s.1 c.blank-fresh.ensures
 
-pub returns-in-err-act : goal.returns-in-err-act
-returns-in-err-act c =
+pub returns-in_err-act : goal.returns-in_err-act
+returns-in_err-act c =
     let held = held_open c.args.board.now in
     let text = c.args.text.now in
-    let p = err_from_is_err_and c.from-residual.result c.from-residual.ensures.1 in
-    let e : c.from-residual.result ≡ Err c.in-err-act.field-0.0 = p.1 ∙ ap Err p.2 in
-    let reading = fault_read text held c.loop-reader.reader c.act.new.self (held_open c.loop-reader.fresh) (held_open c.act.new.board) c.in-err-act.field-0.0 c.loop-reader.invariant c.in-err-act.ensures in
-    let reads : Reads held text c.from-residual.result held = subst (λ r. Reads held text r held) (sym e) (reads_short held text (Err c.in-err-act.field-0.0) held (omega arith) reading) in
-    record { reads = reads; alone = reads_alone held text c.from-residual.result held reads; ends = has_among }
+    let p = err_from_is_err_and c.from_residual.result c.from_residual.ensures.1 in
+    let e : c.from_residual.result ≡ Err c.in_err-act.field-0.0 = p.1 ∙ ap Err p.2 in
+    let reading = fault_read text held c.loop-reader.reader c.act.new.self (held_open c.loop-reader.fresh) (held_open c.act.new.board) c.in_err-act.field-0.0 c.loop-reader.invariant c.in_err-act.ensures in
+    let reads : Reads held text c.from_residual.result held = subst (λ r. Reads held text r held) (sym e) (reads_short held text (Err c.in_err-act.field-0.0) held (omega arith) reading) in
+    record { reads = reads; alone = reads_alone held text c.from_residual.result held reads; ends = has_among }
 
 pub returns : goal.returns
 returns c =
     let held = held_open c.args.board.now in
     let text = c.args.text.now in
     let left = held_open c.act.new.board in
-    let sofar = one_more c.loop-reader.invariant.sofar left c.in-ok-act.ensures in
-    let end = at_end c.act.new.self c.peek.result c.peek.ensures (c.is-none.ensures ∙ ap not c.if-is-none.true) in
+    let sofar = one_more c.loop-reader.invariant.sofar left c.in_ok-act.ensures in
+    let end = at_end c.act.new.self c.peek.result c.peek.ensures (c.is_none.ensures ∙ ap not c.if-is_none.true) in
     let reads = reads_short held text (Ok tt) left (omega arith) (all_read text held c.act.new.self left sofar.0 sofar.1 end) in
     record { reads = reads; alone = reads_alone held text (Ok tt) left reads; ends = has_among }
 
 pub loop-reader-smaller : goal.loop-reader-smaller
-loop-reader-smaller c = fewer c.loop-reader.reader c.act.new.self (held_open c.loop-reader.fresh) (held_open c.act.new.board) c.in-ok-act.ensures
+loop-reader-smaller c = fewer c.loop-reader.reader c.act.new.self (held_open c.loop-reader.fresh) (held_open c.act.new.board) c.in_ok-act.ensures
 
 pub loop-reader-preserved : goal.loop-reader-preserved
 loop-reader-preserved c =
     record {
-      sofar = (one_more c.loop-reader.invariant.sofar (held_open c.act.new.board) c.in-ok-act.ensures).0;
-      more = λ n. absurd (not_at_end c.act.new.self c.peek.result c.peek.ensures (c.is-none.ensures ∙ ap not c.if-is-none.false) n);
+      sofar = (one_more c.loop-reader.invariant.sofar (held_open c.act.new.board) c.in_ok-act.ensures).0;
+      more = λ n. absurd (not_at_end c.act.new.self c.peek.result c.peek.ensures (c.is_none.ensures ∙ ap not c.if-is_none.false) n);
     }
 
 pub returns-then-text-gt-LONGEST : goal.returns-then-text-gt-LONGEST

@@ -3,8 +3,8 @@ use Rattle.netlist.proofs.Parts.{moves}
 use Rattle.netlist.proofs.Sequences.{told_some}
 use Rattle.netlist.proofs.reader.Reader.next_line.Goals as goal
 
-pub invariant-of-self : goal.invariant-of-self
-invariant-of-self c =
-    let t = told_some c.in-ok-edit.ensures in
+pub invariant_of-self : goal.invariant_of-self
+invariant_of-self c =
+    let t = told_some c.in_ok-edit.ensures in
     let m = moves c.args.self.now.line c.args.self.now c.form.new.self t.0 t.1 in
-    (c.form.new.self.short, (c.form.new.self.inside, (omega (arith, m, t.1.line, c.args.self.now.counted), tt)))
+    record { short = c.form.new.self.short; inside = c.form.new.self.inside; counted = omega (arith, m, t.1.line, c.args.self.now.counted) }
