@@ -10,5 +10,5 @@ pub returns-else-n-lt10 : goal.returns-else-n-lt10
 returns-else-n-lt10 t c =
     let fits : c.args.n < 2 ^ 32 = search rules in
     let more = digit_more c.args.n c.if-n-lt10.false fits in
-    let value = c.digit-count.ensures.value in
+    let value = c.digit_count.ensures.value in
     record { value = omega arith; bound = omega (arith, length-decimal-le 10 c.args.n (omega arith) (omega arith) (omega arith)) }

@@ -7,14 +7,14 @@ use Rattle.clauses.proofs.decimals.literal_length.Goals.{then-literal-lt0, else-
 pub returns : goal.returns
 returns c =
     let fits : SFits w16 c.args.literal = c.ranges.literal in
-    let digits : c.digit-count.result ≡ length (decimal (nat_abs c.args.literal)) =
-    c.digit-count.ensures.value ∙ ap (λ n. length (decimal n)) (c.unsigned-abs.ensures.value ∙ ap nat_abs (to_z-of_z w16 c.args.literal fits)) in
+    let digits : c.digit_count.result ≡ length (decimal (nat_abs c.args.literal)) =
+    c.digit_count.ensures.value ∙ ap (λ n. length (decimal n)) (c.unsigned_abs.ensures.value ∙ ap nat_abs (to_z-of_z w16 c.args.literal fits)) in
     let spelt = length-spelled c.args.literal in
     elim c.if-literal-lt0.branch [
       | then-literal-lt0 w ↦
           let sign = signed_negative c.args.literal (simp to_z-of_z at w.if-literal-lt0.true) in
-          record { value = omega (arith, w.sign-is, ap length sign); bound = omega (arith, w.sign-is, c.digit-count.ensures.bound) }
+          record { value = omega (arith, w.sign-is, ap length sign); bound = omega (arith, w.sign-is, c.digit_count.ensures.bound) }
       | else-literal-lt0 w ↦
           let sign = signed_natural c.args.literal (simp to_z-of_z at w.if-literal-lt0.false) in
-          record { value = omega (arith, w.sign-is, ap length sign); bound = omega (arith, w.sign-is, c.digit-count.ensures.bound) }
+          record { value = omega (arith, w.sign-is, ap length sign); bound = omega (arith, w.sign-is, c.digit_count.ensures.bound) }
     ]

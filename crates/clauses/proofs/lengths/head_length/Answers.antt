@@ -4,6 +4,6 @@ use Rattle.clauses.proofs.lengths.head_length.Goals as goal
 
 pub returns : goal.returns
 returns c =
-    let first = c.digit-count.ensures in
-    let second = c.digit-count-2.ensures in
+    let first = c.digit_count.ensures in
+    let second = c.digit_count-2.ensures in
     record { value = omega (arith, length_head c.args.measure.variables c.args.measure.clauses, first.value, second.value); bound = omega (arith, first.bound, second.bound) }

@@ -11,9 +11,9 @@ loop-literal-preserved c =
     let literals = c.args.literals.now in
     let i = c.loop-literal.literal-index in
     let f : SFits w16 (get_or literals i (pos 0)) = search rules in
-    let long : c.literal-length-total.result ≡ length (spelled (get_or literals i (pos 0))) = simp to_z-of_z at c.literal-length-total.ensures.value in (
+    let long : c.literal_length-total.result ≡ length (spelled (get_or literals i (pos 0))) = simp to_z-of_z at c.literal_length-total.ensures.value in (
       omega (arith, long, c.loop-literal.invariant.0, ap length (joined_take_more spelled literals i (pos 0) c.loop-literal-test.true), length-append (flat_map spelled (take i literals)) (spelled (get_or literals i (pos 0)))),
-      omega (arith, c.literal-length-total.ensures.bound, c.loop-literal.invariant.1),
+      omega (arith, c.literal_length-total.ensures.bound, c.loop-literal.invariant.1),
     )
 
 pub returns : goal.returns

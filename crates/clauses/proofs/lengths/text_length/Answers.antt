@@ -16,8 +16,8 @@ returns c =
     let same = assembled c.of.result (held_in c.rack.result.now) c.of.ensures.sized c.of.ensures.ranks ∙ ap clauses c.rack.ensures.same in
     omega (
       arith,
-      c.head-length.ensures.value ∙ ap length (head_measured board c.measure.result c.measure.ensures),
-      c.text-length.ensures.value ∙ ap (λ l. length (flat_map line_of l)) same,
+      c.head_length.ensures.value ∙ ap length (head_measured board c.measure.result c.measure.ensures),
+      c.text_length.ensures.value ∙ ap (λ l. length (flat_map line_of l)) same,
       ap length (text_is board),
       length-append head (flat_map line_of (clauses (held_sealed board))),
     )

@@ -7,8 +7,8 @@ pub returns-then-out-needed : goal.returns-then-out-needed
 returns-then-out-needed c =
     record {
       writes = record {
-        refused = λ h. record { result = ap (λ n. Err (record { buffer = Formula; needed = n })) c.formula-length-needed.ensures; buffer = refl };
-        written = λ h. absurd (omega (arith, c.formula-length-needed.ensures));
+        refused = λ h. record { result = ap (λ n. Err (record { buffer = Formula; needed = n })) c.formula_length-needed.ensures; buffer = refl };
+        written = λ h. absurd (omega (arith, c.formula_length-needed.ensures));
       };
       laws = sealed_laws c.args.board.now;
     }
@@ -17,8 +17,8 @@ pub returns : goal.returns
 returns c =
     record {
       writes = record {
-        refused = λ h. absurd (omega (arith, c.formula-length-needed.ensures));
-        written = λ h. record { result = ap Ok c.formula-length-needed.ensures; buffer = c.write-formula.ensures };
+        refused = λ h. absurd (omega (arith, c.formula_length-needed.ensures));
+        written = λ h. record { result = ap Ok c.formula_length-needed.ensures; buffer = c.write_formula.ensures };
       };
       laws = sealed_laws c.args.board.now;
     }

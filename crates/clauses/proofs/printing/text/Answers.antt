@@ -9,7 +9,7 @@ use Rattle.clauses.specs.Text.{head_of, line_of, printed, text_of}
 use Rattle.clauses.proofs.Filling.{filled_more, filled_start}
 use Rattle.clauses.proofs.Sealed.{head_measured, lines_printed, text_is}
 use Rattle.clauses.proofs.printing.text.Goals as goal
-use Rattle.clauses.proofs.printing.text.Goals.{After-write-formula, After-measure}
+use Rattle.clauses.proofs.printing.text.Goals.{After-write_formula, After-measure}
 
 -- the text is the first line and then the lines of the formula
 whole : (c : After-measure) → text_of (held_sealed c.args.board.now) ≡ head_of c.measure.result.variables c.measure.result.clauses ++ flat_map printed (formula_of (held_sealed c.args.board.now))
@@ -19,35 +19,35 @@ whole c =
     ∙ ap (λ l. head_of c.measure.result.variables c.measure.result.clauses ++ l) (sym (lines_printed board))
 
 -- the part of the buffer that is printed is the formula
-front : (c : After-write-formula) → take (c.formula-length-count.result - 0) c.write-formula.new.out ≡ formula_of (held_sealed c.args.board.now)
+front : (c : After-write_formula) → take (c.formula_length-count.result - 0) c.write_formula.new.out ≡ formula_of (held_sealed c.args.board.now)
 front c =
-    let n : length (formula_of (held_sealed c.args.board.now)) ≡ c.formula-length-count.result - 0 = omega (arith, c.formula-length-count.ensures) in
-    ap (take (c.formula-length-count.result - 0)) c.write-formula.ensures
-    ∙ take_at (formula_of (held_sealed c.args.board.now)) (drop (length (formula_of (held_sealed c.args.board.now))) c.args.formula.now) (c.formula-length-count.result - 0) n
+    let n : length (formula_of (held_sealed c.args.board.now)) ≡ c.formula_length-count.result - 0 = omega (arith, c.formula_length-count.ensures) in
+    ap (take (c.formula_length-count.result - 0)) c.write_formula.ensures
+    ∙ take_at (formula_of (held_sealed c.args.board.now)) (drop (length (formula_of (held_sealed c.args.board.now))) c.args.formula.now) (c.formula_length-count.result - 0) n
 
-pub write-head-head-requires : goal.write-head-head-requires
-write-head-head-requires c =
+pub write_head-head-requires : goal.write_head-head-requires
+write_head-head-requires c =
     let head = head_of c.measure.result.variables c.measure.result.clauses in
     omega (
       arith,
-      c.text-length-needed.ensures,
+      c.text_length-needed.ensures,
       c.if-out-needed.false,
-      ap length (whole (goal.at.write-head-head-requires c).After-measure),
+      ap length (whole (goal.at.write_head-head-requires c).After-measure),
       length-append head (flat_map printed (formula_of (held_sealed c.args.board.now))),
     )
 
-pub write-lines-requires : goal.write-lines-requires
-write-lines-requires c =
+pub write_lines-requires : goal.write_lines-requires
+write_lines-requires c =
     let head = head_of c.measure.result.variables c.measure.result.clauses in
     omega (
       arith,
-      c.text-length-needed.ensures,
+      c.text_length-needed.ensures,
       c.if-out-needed.false,
-      c.write-head-head.ensures.next,
-      c.write-head-head.auto.out,
-      ap length (whole (goal.at.write-lines-requires c).After-measure),
+      c.write_head-head.ensures.next,
+      c.write_head-head.auto.out,
+      ap length (whole (goal.at.write_lines-requires c).After-measure),
       length-append head (flat_map printed (formula_of (held_sealed c.args.board.now))),
-      ap (λ l. length (flat_map printed l)) (front (goal.at.write-lines-requires c).After-write-formula),
+      ap (λ l. length (flat_map printed l)) (front (goal.at.write_lines-requires c).After-write_formula),
     )
 
 pub returns : goal.returns
@@ -56,16 +56,16 @@ returns c =
     let head = head_of c.measure.result.variables c.measure.result.clauses in
     let out = c.args.out.now in
     record {
-      short_formula = λ h. absurd (omega (arith, c.formula-length-count.ensures, c.if-formula-count.false));
-      short_text = λ l h. absurd (omega (arith, c.text-length-needed.ensures, c.if-out-needed.false));
+      short_formula = λ h. absurd (omega (arith, c.formula_length-count.ensures, c.if-formula-count.false));
+      short_text = λ l h. absurd (omega (arith, c.text_length-needed.ensures, c.if-out-needed.false));
       written = λ l h.
           record {
-            result = ap Ok c.text-length-needed.ensures;
-            numbers = c.write-formula.ensures;
+            result = ap Ok c.text_length-needed.ensures;
+            numbers = c.write_formula.ensures;
             bytes =
-                c.write-lines.ensures ∙ ap (λ l. filled c.write-head-head.result (flat_map printed l) c.write-head-head.new.out) (front (goal.at.returns c).After-write-formula)
-                ∙ ap (filled c.write-head-head.result (flat_map printed (formula_of held))) c.write-head-head.ensures.writes
-                ∙ filled_more 0 c.write-head-head.result head (flat_map printed (formula_of held)) out (omega arith) (omega (arith, c.write-head-head.ensures.next))
+                c.write_lines.ensures ∙ ap (λ l. filled c.write_head-head.result (flat_map printed l) c.write_head-head.new.out) (front (goal.at.returns c).After-write_formula)
+                ∙ ap (filled c.write_head-head.result (flat_map printed (formula_of held))) c.write_head-head.ensures.writes
+                ∙ filled_more 0 c.write_head-head.result head (flat_map printed (formula_of held)) out (omega arith) (omega (arith, c.write_head-head.ensures.next))
                 ∙ ap (λ l. filled 0 l out) (sym (whole (goal.at.returns c).After-measure)) ∙ filled_start (text_of held) out;
           };
     }

@@ -4,23 +4,23 @@ use Rattle.clauses.proofs.Filling.{fill_more}
 use Rattle.clauses.proofs.Spelling.{head_fields, length_head}
 use Rattle.clauses.proofs.printing.write_head.Goals as goal
 
-pub write-field-variables-requires : goal.write-field-variables-requires
-write-field-variables-requires c = omega (arith, c.requires, length_head c.args.measure.variables c.args.measure.clauses)
+pub write_field-variables-requires : goal.write_field-variables-requires
+write_field-variables-requires c = omega (arith, c.requires, length_head c.args.measure.variables c.args.measure.clauses)
 
-pub write-field-clauses-requires : goal.write-field-clauses-requires
-write-field-clauses-requires c =
-    omega (arith, c.requires, length_head c.args.measure.variables c.args.measure.clauses, c.write-field-variables.ensures.next, c.write-field-variables.auto.out)
+pub write_field-clauses-requires : goal.write_field-clauses-requires
+write_field-clauses-requires c =
+    omega (arith, c.requires, length_head c.args.measure.variables c.args.measure.clauses, c.write_field-variables.ensures.next, c.write_field-variables.auto.out)
 
-pub write-all-requires : goal.write-all-requires
-write-all-requires c =
+pub write_all-requires : goal.write_all-requires
+write_all-requires c =
     omega (
       arith,
       c.requires,
       length_head c.args.measure.variables c.args.measure.clauses,
-      c.write-field-variables.ensures.next,
-      c.write-field-clauses.ensures.next,
-      c.write-field-variables.auto.out,
-      c.write-field-clauses.auto.out,
+      c.write_field-variables.ensures.next,
+      c.write_field-clauses.ensures.next,
+      c.write_field-variables.auto.out,
+      c.write_field-clauses.auto.out,
     )
 
 pub returns : goal.returns
@@ -29,9 +29,9 @@ returns c =
     let n = codes " " ++ decimal c.args.measure.clauses in
     let was = c.args.out.now in
     let first =
-    fill_more 0 c.write-field-variables.result c.write-field-clauses.result v n (v ++ n) was c.write-field-variables.new.out c.write-field-clauses.new.out (omega arith) c.write-field-variables.ensures.next
-    c.write-field-variables.ensures.writes refl c.write-field-clauses.ensures.next c.write-field-clauses.ensures.writes in
+    fill_more 0 c.write_field-variables.result c.write_field-clauses.result v n (v ++ n) was c.write_field-variables.new.out c.write_field-clauses.new.out (omega arith) c.write_field-variables.ensures.next
+    c.write_field-variables.ensures.writes refl c.write_field-clauses.ensures.next c.write_field-clauses.ensures.writes in
     let all =
-    fill_more 0 c.write-field-clauses.result c.write-all.result (v ++ n) line_feed (head_of c.args.measure.variables c.args.measure.clauses) was c.write-field-clauses.new.out c.write-all.new.out (omega arith) first.0
-    first.1 (head_fields c.args.measure.variables c.args.measure.clauses) c.write-all.ensures.next c.write-all.ensures.writes in
+    fill_more 0 c.write_field-clauses.result c.write_all.result (v ++ n) line_feed (head_of c.args.measure.variables c.args.measure.clauses) was c.write_field-clauses.new.out c.write_all.new.out (omega arith) first.0
+    first.1 (head_fields c.args.measure.variables c.args.measure.clauses) c.write_all.ensures.next c.write_all.ensures.writes in
     record { next = omega (arith, all.0); writes = all.1 }

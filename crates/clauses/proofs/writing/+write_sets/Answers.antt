@@ -9,19 +9,19 @@ use Rattle.clauses.proofs.Sets.{sets_none, sets_short, sets_split}
 use Rattle.clauses.proofs.writing.+write_sets.Goals as goal
 use Rattle.clauses.proofs.writing.+write_sets.Goals.{After-with}
 
-pub write-clause-requires : goal.write-clause-requires
-write-clause-requires t c =
+pub write_clause-requires : goal.write_clause-requires
+write_clause-requires t c =
     let e = sets_none (literals_in c.args.front) c.args.size c.args.literals.now c.if-size-eq0.true in
-    omega (arith, c.requires.1, simp length-append at (ap length e), ap length c.as-slice.ensures)
+    omega (arith, c.requires.1, simp length-append at (ap length e), ap length c.as_slice.ensures)
 
 pub returns-then-size-eq0 : goal.returns-then-size-eq0
 returns-then-size-eq0 t c =
     let front = literals_in c.args.front in
     let e = sets_none front c.args.size c.args.literals.now c.if-size-eq0.true in
-    let clause : c.as-slice.result.now ++ (pos 0 ∷ []) ≡ set_numbers front c.args.size c.args.literals.now = ap (λ l. l ++ (pos 0 ∷ [])) c.as-slice.ensures ∙ sym e in
+    let clause : c.as_slice.result.now ++ (pos 0 ∷ []) ≡ set_numbers front c.args.size c.args.literals.now = ap (λ l. l ++ (pos 0 ∷ [])) c.as_slice.ensures ∙ sym e in
     record {
-      next = omega (arith, c.write-clause.ensures.next, simp length-append at (ap length e), ap length c.as-slice.ensures);
-      writes = filled_as c.args.at (c.as-slice.result.now ++ (pos 0 ∷ [])) (set_numbers front c.args.size c.args.literals.now) c.args.out.now c.write-clause.new.out c.write-clause.ensures.writes clause;
+      next = omega (arith, c.write_clause.ensures.next, simp length-append at (ap length e), ap length c.as_slice.ensures);
+      writes = filled_as c.args.at (c.as_slice.result.now ++ (pos 0 ∷ [])) (set_numbers front c.args.size c.args.literals.now) c.args.out.now c.write_clause.new.out c.write_clause.ensures.writes clause;
     }
 
 pub returns-then-literals-size : goal.returns-then-literals-size
@@ -43,27 +43,27 @@ split t c =
     let s = sets_split (literals_in c.args.front) c.args.size c.args.literals.now (omega arith) (omega arith) in
     cc
 
-pub write-sets-next-requires : goal.write-sets-next-requires
-write-sets-next-requires t c = (
+pub write_sets-next-requires : goal.write_sets-next-requires
+write_sets-next-requires t c = (
   search rules,
-  (omega (arith, c.with.ensures.count, c.requires.0), omega (arith, c.requires.1, simp length-append at (ap length (split t (goal.at.write-sets-next-requires t c).After-with)))),
+  (omega (arith, c.with.ensures.count, c.requires.0), omega (arith, c.requires.1, simp length-append at (ap length (split t (goal.at.write_sets-next-requires t c).After-with)))),
 )
 
-pub write-sets-requires : goal.write-sets-requires
-write-sets-requires t c = (
+pub write_sets-requires : goal.write_sets-requires
+write_sets-requires t c = (
   search rules,
-  (c.requires.0, omega (arith, c.requires.1, c.write-sets-next.ensures.next, c.write-sets-next.auto.out, simp length-append at (ap length (split t (goal.at.write-sets-requires t c).After-with)))),
+  (c.requires.0, omega (arith, c.requires.1, c.write_sets-next.ensures.next, c.write_sets-next.auto.out, simp length-append at (ap length (split t (goal.at.write_sets-requires t c).After-with)))),
 )
 
 pub returns : goal.returns
 returns t c =
     let e = split t (goal.at.returns t c).After-with in
     let more =
-    filled_more c.args.at c.write-sets-next.result (set_numbers (literals_in c.with.result) (c.args.size - 1) (between 1 (length c.args.literals.now) c.args.literals.now))
-    (set_numbers (literals_in c.args.front) c.args.size (between 1 (length c.args.literals.now) c.args.literals.now)) c.args.out.now (omega (arith, c.requires.1)) c.write-sets-next.ensures.next in
+    filled_more c.args.at c.write_sets-next.result (set_numbers (literals_in c.with.result) (c.args.size - 1) (between 1 (length c.args.literals.now) c.args.literals.now))
+    (set_numbers (literals_in c.args.front) c.args.size (between 1 (length c.args.literals.now) c.args.literals.now)) c.args.out.now (omega (arith, c.requires.1)) c.write_sets-next.ensures.next in
     record {
-      next = omega (arith, c.write-sets.ensures.next, c.write-sets-next.ensures.next, simp length-append at (ap length e));
+      next = omega (arith, c.write_sets.ensures.next, c.write_sets-next.ensures.next, simp length-append at (ap length e));
       writes =
-          c.write-sets.ensures.writes ∙ ap (filled c.write-sets-next.result (set_numbers (literals_in c.args.front) c.args.size (between 1 (length c.args.literals.now) c.args.literals.now))) c.write-sets-next.ensures.writes
+          c.write_sets.ensures.writes ∙ ap (filled c.write_sets-next.result (set_numbers (literals_in c.args.front) c.args.size (between 1 (length c.args.literals.now) c.args.literals.now))) c.write_sets-next.ensures.writes
           ∙ more ∙ ap (λ l. filled c.args.at l c.args.out.now) (sym e);
     }

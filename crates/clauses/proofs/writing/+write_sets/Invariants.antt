@@ -1,5 +1,5 @@
 use Rattle.std.proofs.Common.{length}
 use Rattle.clauses.proofs.writing.+write_sets.Given as goal
 
-abbrev pub decreases-write-sets : goal.decreases-write-sets
-decreases-write-sets l = length l.literals.now
+abbrev pub decreases-write_sets : goal.decreases-write_sets
+decreases-write_sets l = length l.literals.now

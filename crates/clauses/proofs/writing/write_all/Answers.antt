@@ -8,5 +8,5 @@ returns g c =
     let n = length c.args.elements.now in
     record {
       next = refl;
-      writes = ap (put_mid c.args.at (c.args.at + n - c.args.at) c.args.out.now) c.copy-from-slice.ensures.after ∙ filled_part c.args.at (c.args.at + n - c.args.at) c.args.elements.now c.args.out.now (omega arith);
+      writes = ap (put_mid c.args.at (c.args.at + n - c.args.at) c.args.out.now) c.copy_from_slice.ensures.after ∙ filled_part c.args.at (c.args.at + n - c.args.at) c.args.elements.now c.args.out.now (omega arith);
     }

@@ -23,10 +23,10 @@ returns c =
     let count = length-literals c.args.self.now.literals in
     let literals = literals_in c.args.self.now.literals in
     let long = length-set_lines block.size literals block.some (omega (arith, count, c.if-count-self.false, block.some)) in
-    let each = c.set-count-each.ensures.value ∙ ap (λ d. subset_count (d - 1) (block.size - 1)) (sym count) in
-    let width = c.literals-length.ensures.value ∙ ap (λ l. length (flat_map spelled l)) c.as-slice.ensures ∙ length_spelt literals in
-    let sets = c.set-count-sets.ensures.value ∙ ap (λ d. subset_count d block.size) (sym count) in
+    let each = c.set_count-each.ensures.value ∙ ap (λ d. subset_count (d - 1) (block.size - 1)) (sym count) in
+    let width = c.literals_length.ensures.value ∙ ap (λ l. length (flat_map spelled l)) c.as_slice.ensures ∙ length_spelt literals in
+    let sets = c.set_count-sets.ensures.value ∙ ap (λ d. subset_count d block.size) (sym count) in
     record {
       value = ap₂ (λ a b. a + 2 * b) (ap₂ (λ a b. a * b) each width) sets ∙ sym long;
-      bound = omega (arith, c.set-count-sets.ensures.bound, mul-le c.set-count-each.result c.literals-length.result 201376 384 c.set-count-each.ensures.bound c.literals-length.ensures.bound);
+      bound = omega (arith, c.set_count-sets.ensures.bound, mul-le c.set_count-each.result c.literals_length.result 201376 384 c.set_count-each.ensures.bound c.literals_length.ensures.bound);
     }

@@ -7,7 +7,7 @@ use Rattle.clauses.specs.Ranks.{ranks_at, Ranks, Sized}
 use Rattle.clauses.specs.declared.ranking.Ranking.{Ranking}
 use Rattle.clauses.proofs.Ranks.{ranks_gap, ranks_net, ranks_below, ranks_room, row_at}
 use Rattle.clauses.proofs.ranking.Ranking.of.Goals as goal
-use Rattle.clauses.proofs.ranking.Ranking.of.Goals.{in-Some, in-default}
+use Rattle.clauses.proofs.ranking.Ranking.of.Goals.{in-Some, in_default}
 
 pub enter-requires : goal.enter-requires
 enter-requires c =
@@ -36,7 +36,7 @@ loop-place-preserved c =
             ranks_net rows c.loop-place.place (omega arith) w.in-Some.net (row ∙ w.in-Some.is) c.loop-place.ranking c.loop-place.invariant.1 w.enter.new.self w.enter.ensures.nets
                 (λ place. w.enter.ensures.lists place ∙ ap (λ n. ranks_at c.loop-place.ranking place ++ cond (has_end n (place + 1)) (c.loop-place.ranking.nets ∷ []) []) w.ends.ensures),
           )
-      | in-default w ↦ subst P (sym w.ranking-is) (c.loop-place.invariant.0, ranks_gap rows c.loop-place.place (omega arith) c.loop-place.ranking (row ∙ w.in-default.is) c.loop-place.invariant.1)
+      | in_default w ↦ subst P (sym w.ranking-is) (c.loop-place.invariant.0, ranks_gap rows c.loop-place.place (omega arith) c.loop-place.ranking (row ∙ w.in_default.is) c.loop-place.invariant.1)
     ]
 
 pub returns : goal.returns

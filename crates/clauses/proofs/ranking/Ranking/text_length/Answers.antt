@@ -11,14 +11,14 @@ pub loop-index-preserved : goal.loop-index-preserved
 loop-index-preserved c =
     let lines = lines_at c.args.self.now in
     let i = c.loop-index.index in
-    let long : c.text-length-total.result ≡ length (lines i) = c.text-length-total.ensures.value ∙ ap (λ l. length (flat_map line_of l)) c.block.ensures ∙ ap length (sym (lines_are c.args.self.now i)) in (
+    let long : c.text_length-total.result ≡ length (lines i) = c.text_length-total.ensures.value ∙ ap (λ l. length (flat_map line_of l)) c.block.ensures ∙ ap length (sym (lines_are c.args.self.now i)) in (
       omega (arith, long, c.loop-index.invariant.0, ap length (joined_more lines i), length-append (flat_map lines (range_with_len 0 i)) (lines i)),
-      omega (arith, c.text-length-total.ensures.bound, c.loop-index.invariant.1),
+      omega (arith, c.text_length-total.ensures.bound, c.loop-index.invariant.1),
     )
 
 pub returns : goal.returns
 returns c =
-    let n : c.loop-index.index ≡ block_count c.args.self.now = omega (arith, c.block-count-index-end.ensures) in
+    let n : c.loop-index.index ≡ block_count c.args.self.now = omega (arith, c.block_count-index-end.ensures) in
     record {
       value = c.loop-index.invariant.0 ∙ ap length (ap (λ m. flat_map (lines_at c.args.self.now) (range_with_len 0 m)) n ∙ lines_all c.args.self.now);
       bound = omega (arith, c.loop-index.invariant.1, few_blocks c.args.self.now);

@@ -13,7 +13,7 @@ loop-index-init c = (refl, filled_none 0 c.args.out.now)
 
 pub write-at-requires : goal.write-at-requires
 write-at-requires c =
-    let size : c.loop-index.index < block_count c.args.self.now = omega (arith, c.block-count-index-end.ensures) in
+    let size : c.loop-index.index < block_count c.args.self.now = omega (arith, c.block_count-index-end.ensures) in
     let piece : encode (clauses_in c.block.result) ≡ numbers_at c.args.self.now c.loop-index.index = ap encode c.block.ensures ∙ sym (numbers_are c.args.self.now c.loop-index.index) in
     omega (arith, c.requires, c.loop-index.invariant.0, c.loop-index.auto.out, ap length piece, joined_room (numbers_at c.args.self.now) c.loop-index.index (block_count c.args.self.now) size, ap length (numbers_all c.args.self.now))
 
@@ -29,5 +29,5 @@ loop-index-preserved c =
 
 pub returns : goal.returns
 returns c =
-    let n : c.loop-index.index ≡ block_count c.args.self.now = omega (arith, c.block-count-index-end.ensures) in
+    let n : c.loop-index.index ≡ block_count c.args.self.now = omega (arith, c.block_count-index-end.ensures) in
     c.loop-index.invariant.1 ∙ ap (λ l. filled 0 l c.args.out.now) (ap (λ m. flat_map (numbers_at c.args.self.now) (range_with_len 0 m)) n ∙ numbers_all c.args.self.now)
