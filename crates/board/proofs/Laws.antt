@@ -1,12 +1,12 @@
 -- The laws of boards, from the invariant and from what the calls leave.
-use Rattle.std.proofs.Common.{◌≡◌, ℕ, zero, suc, ◌+◌, ◌-◌, ◌*◌, ◌/◌, ◌%◌, ◌^◌, ◌<◌, ◌≤◌, Bool, true, false, cond, ◌&&◌, eqb, ltb, leb, ◌≢◌, ◌⊎◌, List, length, get_or, set, Some, None, Option, sym, refl, ap, ◌∙◌, inl, inr, ⊎_elim, arith, shr-shr}
+use Rattle.std.proofs.Common.{◌≡◌, ℕ, zero, suc, ◌-◌, ◌*◌, ◌/◌, ◌%◌, ◌^◌, ◌<◌, ◌≤◌, true, ◌&&◌, eqb, ltb, leb, length, get_or, Some, None, Option, sym, refl, ap, ◌∙◌, ⊎_elim, arith, shr-shr}
 use lib.Count.{ones, ones_step}
 use Rattle.std.proofs.lemmas.List.{get_or-set_same, get_or-set_other}
 use Rattle.std.proofs.lemmas.Bool.{and_parts, leb-true, ltb-true, eq-eqb, cases_lt}
 use Rattle.board.specs.declared.net.Net.{Net}
 use Rattle.board.specs.Held.{Held, with_row}
 use Rattle.board.specs.Laws.{Lawful, LawfulNet, LowestFullEnd, RowAlone}
-use Rattle.board.specs.Rows.{are_ends, good_row, has_end, in_limits, load, lock_within, lowest_full_in, row_of}
+use Rattle.board.specs.Rows.{are_ends, good_row, has_end, in_limits, load, lock_within, lowest_full_in}
 use Rattle.board.proofs.Ends.{end_low, end_high}
 use Rattle.board.proofs.Full.{named_full}
 

@@ -1,5 +1,5 @@
 -- What is held, which edits are declined, and what is held after an edit.
-use Rattle.std.specs.Prelude.{◌≡◌, ℕ, ◌+◌, ◌-◌, ◌*◌, Bool, false, cond, not, List, [], ◌∷◌, replicate, is_some, Some, None, Ok, Err, Option, Result, nat_lt, slice_set}
+use Rattle.std.specs.Prelude.{ℕ, ◌+◌, ◌-◌, ◌*◌, Bool, false, cond, not, List, [], ◌∷◌, replicate, is_some, Some, None, Ok, Err, Option, Result, nat_lt, slice_set}
 use Rattle.board.specs.Finds.{is_number}
 use Rattle.board.specs.Rows.{row_of, relocked, are_ends, in_limits, lowest_full_in}
 use Rattle.board.specs.declared.edit.Edit.{Edit}

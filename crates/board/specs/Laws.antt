@@ -1,5 +1,5 @@
 -- What holds of every board, and what edits and their refusals come to, in the board's own terms.
-use Rattle.std.specs.Prelude.{◌≡◌, ℕ, ◌*◌, ◌<◌, ◌≤◌, true, length, Some, None, Option, ◌≢◌}
+use Rattle.std.specs.Prelude.{◌≡◌, ℕ, ◌*◌, ◌<◌, ◌≤◌, true, length, Some, Option, ◌≢◌}
 use Rattle.board.specs.Held.{Held}
 use Rattle.board.specs.Rows.{has_end, load, row_of}
 use Rattle.board.specs.declared.net.Net.{Net}

@@ -1,4 +1,6 @@
 // Boards: what they hold, the edits that change it, and their measure.
+#![tactic(auto)]
+
 pub mod edit;
 pub mod measure;
 pub mod net;

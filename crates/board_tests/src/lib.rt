@@ -1,3 +1,5 @@
+#![tactic(auto)]
+
 // Examples of edits on boards with their expected answers.
 #[cfg(test)]
 mod tests {

@@ -1,4 +1,6 @@
 // The formula of a sealed board, as numbers and as text.
+#![tactic(auto)]
+
 mod block;
 mod blocks;
 pub mod buffer;

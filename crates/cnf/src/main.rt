@@ -1,4 +1,6 @@
 // Reads a netlist from standard input and prints the text of its formula, or the line of the refusal.
+#![tactic(auto)]
+
 ghost use Rattle.std.specs.Prelude.{◌≤◌, length, IfOk};
 
 mod answer;

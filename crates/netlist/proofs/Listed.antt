@@ -1,5 +1,5 @@
 -- Reading the chips of a net line one after the other.
-use Rattle.std.proofs.Common.{◌≡◌, ℕ, ◌+◌, ◌<◌, ◌≤◌, true, false, List, [], ◌∷◌, ◌++◌, length, is_some, Some, None, Option, sym, refl, ap, ◌∙◌, subst, append_assoc, append-nil, arith, length-append}
+use Rattle.std.proofs.Common.{◌≡◌, ℕ, ◌<◌, ◌≤◌, true, false, List, [], ◌∷◌, ◌++◌, length, is_some, Some, None, Option, sym, refl, ap, ◌∙◌, subst, append_assoc, arith, length-append}
 use Rattle.std.proofs.lemmas.List.{flat_map_more}
 use Rattle.std.specs.List.{flat_map}
 use Rattle.netlist.specs.Lines.{line_feed, Chips, ends_of, with_chip}
@@ -8,7 +8,7 @@ use Rattle.netlist.specs.Pieces.{byte, field, chips, digit_first}
 use Rattle.netlist.specs.Place.{rest, Takes}
 use Rattle.netlist.specs.declared.reader.Reader.{Reader}
 use Rattle.netlist.proofs.Numbers.{rest_stays}
-use Rattle.netlist.proofs.Sequences.{Missing, Standing, missing, standing, only_field, stays, goes}
+use Rattle.netlist.proofs.Sequences.{Missing, only_field, goes}
 use Rattle.netlist.proofs.Sets.{chips_middle, ends_some, with_some, with_none}
 
 -- a reader has come over some chips; every list of chips that stands at the start begins with these

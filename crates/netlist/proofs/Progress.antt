@@ -1,11 +1,11 @@
 -- Reading a netlist line by line into a blank board.
-use Rattle.std.proofs.Common.{◌≡◌, ℕ, ◌+◌, ◌<◌, ◌≤◌, true, false, eqb, List, [], ◌∷◌, ◌++◌, map, length, is_some, Some, None, Ok, Err, Option, Result, sym, refl, ap, ◌∙◌, subst, append_assoc, add-zero, arith, length-append}
+use Rattle.std.proofs.Common.{◌≡◌, ℕ, ◌+◌, ◌<◌, ◌≤◌, true, false, List, [], ◌∷◌, ◌++◌, map, length, is_some, Some, None, Ok, Err, Option, Result, sym, refl, ap, ◌∙◌, subst, append_assoc, add-zero, arith, length-append}
 use Rattle.std.proofs.lemmas.List.{flat_map_more, length_push}
 use Rattle.std.proofs.lemmas.Bool.{false≢true}
 use Rattle.std.specs.List.{flat_map}
 use Rattle.board.specs.Held.{Held, blank, judged, changed, after, after_all, unless_refused}
 use Rattle.netlist.specs.Lines.{Line, BoardLine, NetLine, LockLine, render, MayStand, edit_of}
-use Rattle.netlist.specs.Place.{rest, Stands, GoesOn, Acts}
+use Rattle.netlist.specs.Place.{rest, Stands, Acts}
 use Rattle.netlist.specs.Reads.{Placed, Accepted, Stops, Reading, Reads}
 use Rattle.netlist.specs.declared.fault.Fault.{Fault}
 use Rattle.netlist.specs.declared.fault.Fault.TheVariants.{TooLong, NoForm, Declined}

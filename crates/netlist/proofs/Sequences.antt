@@ -1,7 +1,7 @@
 -- Pieces one after the other, and that a text begins with at most one thing of a piece.
-use Rattle.std.proofs.Common.{◌≡◌, ℕ, ◌+◌, ◌<◌, List, [], ◌∷◌, ◌++◌, Some, None, Option, sym, refl, ap, ◌∙◌, subst, append_assoc, arith}
+use Rattle.std.proofs.Common.{◌≡◌, ℕ, ◌+◌, List, ◌++◌, Some, None, Option, sym, refl, ap, ◌∙◌, subst, append_assoc, arith}
 use Rattle.std.specs.Option.{option_map}
-use Rattle.netlist.specs.Pieces.{Piece, Found, byte, one_of, number, field}
+use Rattle.netlist.specs.Pieces.{Piece, byte, one_of, number, field}
 use Rattle.netlist.specs.Place.{rest, Takes, TakesAs}
 use Rattle.netlist.specs.declared.reader.Reader.{Reader}
 use Rattle.netlist.proofs.Numbers.{number_same, rest_stays}

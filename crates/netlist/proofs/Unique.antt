@@ -3,10 +3,9 @@ use Rattle.std.proofs.Common.{◌≡◌, ℕ, ◌+◌, ◌<◌, ◌≤◌, cond,
 use Rattle.std.proofs.lemmas.Bool.{cases_lt}
 use Rattle.std.specs.List.{flat_map}
 use Rattle.board.specs.Held.{Held, judged, after, after_all}
-use Rattle.netlist.specs.Lines.{Line, BoardLine, NetLine, LockLine, line_feed, Chips, Formed, MayStand, render, edit_of}
-use Rattle.netlist.specs.Lines as lines
-use Rattle.netlist.specs.Pieces.{byte, letter, field, chips}
-use Rattle.netlist.specs.Reads.{Placed, Accepted, Stops, Reading, Reads, Alone}
+use Rattle.netlist.specs.Lines.{Line, BoardLine, NetLine, LockLine, Chips, Formed, MayStand, render, edit_of}
+use Rattle.netlist.specs.Pieces.{chips}
+use Rattle.netlist.specs.Reads.{Placed, Accepted, Stops, Reads, Alone}
 use Rattle.netlist.specs.declared.fault.Fault.{Fault}
 use Rattle.netlist.specs.declared.fault.Fault.TheVariants.{TooLong, NoForm, Declined}
 use Rattle.netlist.proofs.Listed.{no_digit, field_first}

@@ -1,4 +1,6 @@
 // Netlists: reading one into an open board, and the line that a refusal prints.
+#![tactic(auto)]
+
 ghost use Rattle.board.specs.Views.{held_open};
 ghost use Rattle.netlist.specs.Reads.{Reads, Alone, EndsAreChips};
 

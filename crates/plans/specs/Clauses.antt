@@ -1,5 +1,5 @@
 -- The clause list of a board. The variable of the net of rank r at FPIC t is r × k + t + 1.
-use Rattle.std.specs.Prelude.{ℕ, ◌+◌, ◌*◌, cond, List, [], ◌∷◌, ◌++◌, map, length, ℤ, pos, negsuc, ◌==◌}
+use Rattle.std.specs.Prelude.{ℕ, ◌+◌, ◌*◌, cond, List, ◌++◌, map, length, ℤ, pos, negsuc, ◌==◌}
 use Rattle.std.specs.List.{range_with_len, flat_map}
 use Rattle.subsets.specs.Choose.{choose}
 use Rattle.board.specs.Held.{Held}

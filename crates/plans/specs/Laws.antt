@@ -1,9 +1,8 @@
 -- What ties plans, clauses and measures together.
-use Rattle.std.specs.Prelude.{◌≡◌, ℕ, ◌*◌, List, [], length, None, sum_by, Option}
+use Rattle.std.specs.Prelude.{◌≡◌, ℕ, ◌*◌, List, [], length, None, sum_by}
 use Rattle.sat.specs.Formula.{encode}
 use Rattle.sat.specs.Question.{Models}
 use Rattle.board.specs.Held.{Held}
-use Rattle.board.specs.Laws.{Lawful}
 use Rattle.board.specs.Measure.{measured}
 use Rattle.board.specs.Rows.{row_of}
 use Rattle.plans.specs.Clauses.{clauses, valuation_of}

@@ -1,5 +1,5 @@
 -- The held nets by rank: rank r is the place, counted from 0, in the list of held nets by rising number.
-use Rattle.std.specs.Prelude.{◌≡◌, ℕ, ◌+◌, cond, List, [], ◌∷◌, Some, None, Option}
+use Rattle.std.specs.Prelude.{ℕ, ◌+◌, cond, List, [], ◌∷◌, Some, None, Option}
 use Rattle.board.specs.Rows.{has_end}
 use Rattle.board.specs.declared.net.Net.{Net}
 

@@ -1,5 +1,5 @@
 -- Plans, which of them are legal, and which of two is the earlier.
-use Rattle.std.specs.Prelude.{◌≡◌, ℕ, ◌<◌, ◌≤◌, Bool, ◌&&◌, ◌⊎◌, List, [], ◌∷◌, map, Some, None, count_by, ◌==◌, ◌≢◌}
+use Rattle.std.specs.Prelude.{◌≡◌, ℕ, ◌<◌, ◌≤◌, Bool, ◌&&◌, ◌⊎◌, List, [], ◌∷◌, map, Some, count_by, ◌==◌, ◌≢◌}
 use Rattle.std.specs.List.{AllByRecursion as All}
 use Rattle.board.specs.Held.{Held}
 use Rattle.board.specs.Rows.{ends_on, row_of}

@@ -1,4 +1,6 @@
 // Formulas and the interface that every solver keeps. Nothing here knows of boards or of a particular solver.
+#![tactic(auto)]
+
 pub mod question;
 pub mod solver;
 

@@ -1,4 +1,6 @@
 // Clauses read under a partial valuation: what one clause is there, and the first telling clause around a formula.
+#![tactic(auto)]
+
 pub mod clause;
 pub mod round;
 pub mod value;

@@ -1,4 +1,6 @@
 // A complete solver: it forces, chooses and backs until it ends.
+#![tactic(auto)]
+
 mod mood;
 pub mod solver;
 mod state;

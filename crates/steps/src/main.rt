@@ -1,4 +1,6 @@
 // Drives the library through one task, from a blank board to a question about its formula, and prints each step.
+#![tactic(auto)]
+
 mod show;
 mod step;
 

@@ -3,7 +3,7 @@
 use Rattle.std.proofs.Common.{◌≡◌, ℕ, zero, suc, ◌+◌, ◌<◌, ◌≤◌, leb, ◌⊎◌, Some, None, refl, zero-le, add-one, arith, leb-true}
 use Rattle.std.proofs.lemmas.Bool.Decides.{nat_tests}
 use Rattle.subsets.specs.Choose.{subset_count, tabled}
-use Rattle.subsets.proofs.Each.{each, each_at}
+use Rattle.subsets.proofs.Each.{each_at}
 
 -- a set has one subset of no element
 pub count_none : (d : ℕ) → subset_count d 0 ≡ 1

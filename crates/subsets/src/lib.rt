@@ -1,4 +1,6 @@
 // How many subsets of s elements a set of d elements has, read from a table.
+#![tactic(auto)]
+
 ghost use Rattle.subsets.specs.Choose.{CountsSublists, known, tabled};
 ghost use Rattle.std.specs.Prelude.{◌≡◌, ◌+◌, ◌*◌, if◌then◌else◌, Some, None};
 

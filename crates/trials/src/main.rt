@@ -1,4 +1,6 @@
 // Asks the solvers the same questions and prints one line for each, with what each solver says.
+#![tactic(auto)]
+
 ghost use Rattle.std.specs.Prelude.{min, length};
 ghost use Rattle.trials.specs.Answers.{Right};
 

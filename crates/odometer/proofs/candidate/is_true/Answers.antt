@@ -1,4 +1,4 @@
-use Rattle.std.proofs.Common.{◌≡◌, ◌-◌, nat_abs, w16, SFits}
+use Rattle.std.proofs.Common.{◌≡◌, nat_abs, w16, SFits}
 use Rattle.std.proofs.lemmas.Int.{to_z-of_z}
 use Rattle.sat.proofs.Numbers.{nonzero_is}
 use Rattle.odometer.proofs.Literals.{positive_true, negative_true}

@@ -1,4 +1,4 @@
-use Rattle.std.proofs.Common.{◌≡◌, not, get_or, pos, ap, w16, SFits, rules}
+use Rattle.std.proofs.Common.{not, get_or, pos, ap, w16, SFits, rules}
 use Rattle.sat.specs.Formula.{is_zero}
 use Rattle.sat.proofs.Numbers.{every_more, every_fails, every_ends, zero_is, nonzero_is}
 use Rattle.sat.proofs.question.all_literals.Goals as goal

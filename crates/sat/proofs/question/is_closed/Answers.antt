@@ -1,4 +1,4 @@
-use Rattle.std.proofs.Common.{◌-◌, length, get_or, pos, sym, ap, arith}
+use Rattle.std.proofs.Common.{◌-◌, length, pos, sym, ap, arith}
 use Rattle.std.proofs.lemmas.List.{get_or_past}
 use Rattle.sat.specs.Formula.{is_zero}
 use Rattle.sat.proofs.question.is_closed.Goals as goal

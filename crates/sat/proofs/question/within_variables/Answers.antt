@@ -1,4 +1,4 @@
-use Rattle.std.proofs.Common.{◌≡◌, leb, get_or, pos, nat_abs, ◌∙◌, arith, w16, SFits, rules}
+use Rattle.std.proofs.Common.{◌≡◌, leb, get_or, pos, nat_abs, w16, SFits, rules}
 use Rattle.std.proofs.lemmas.Int.{to_z-of_z}
 use Rattle.std.proofs.lemmas.Bool.{le-leb, lt-leb}
 use Rattle.sat.specs.Formula.{variable}

@@ -1,4 +1,4 @@
-use Rattle.std.proofs.Common.{◌≡◌, ℕ, ◌+◌, cond, get_or, is_err, arith}
+use Rattle.std.proofs.Common.{◌≡◌, ◌+◌, cond, get_or, is_err, arith}
 use Rattle.board.specs.Held.{answer, judged}
 use Rattle.board.specs.Views.{held_open}
 use Rattle.board.specs.declared.edit.Edit.TheVariants.{Make}

@@ -1,4 +1,4 @@
-use Rattle.std.proofs.Common.{◌≡◌, ◌+◌, ◌*◌, ◌≤◌, sym, ap, ◌∙◌, ⊎_elim, arith, rules}
+use Rattle.std.proofs.Common.{◌≡◌, ◌+◌, ◌≤◌, sym, ap, ◌∙◌, ⊎_elim, arith}
 use Rattle.subsets.specs.Choose.{subset_count}
 use Rattle.subsets.proofs.Count.{tabled_none, tabled_some, tabled_at_most}
 use Rattle.board.specs.Rows.{load}

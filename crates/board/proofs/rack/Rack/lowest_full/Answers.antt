@@ -1,4 +1,4 @@
-use Rattle.std.proofs.Common.{◌≡◌, ◌-◌, ◌*◌, sym, ap, ◌∙◌, arith, rules}
+use Rattle.std.proofs.Common.{◌≡◌, ◌-◌, ◌*◌, sym, ap, ◌∙◌, arith}
 use lib.Bits.{and_le_l}
 use Rattle.board.specs.Rows.{lowest_full_in}
 use Rattle.board.proofs.Full.{full_none, full_here, full_beyond}

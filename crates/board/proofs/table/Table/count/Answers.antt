@@ -1,4 +1,4 @@
-use Rattle.std.proofs.Common.{is_some, refl, arith, rules}
+use Rattle.std.proofs.Common.{is_some, refl, arith}
 use Rattle.board.specs.Rows.{nets}
 use Rattle.board.proofs.Rows.{count_more, count_all}
 use Rattle.board.proofs.table.Table.count.Goals as goal

@@ -1,4 +1,4 @@
-use Rattle.std.proofs.Common.{refl, arith, rules}
+use Rattle.std.proofs.Common.{refl, arith}
 use Rattle.board.specs.Rows.{load, ends_on}
 use Rattle.board.proofs.Rows.{count_more, count_all}
 use Rattle.board.proofs.table.Table.load.Goals as goal

@@ -1,4 +1,4 @@
-use Rattle.std.proofs.Common.{◌^◌, ◌<◌, length}
+use Rattle.std.proofs.Common.{length}
 use Rattle.netlist.specs.Place.{rest}
 use Rattle.netlist.proofs.Listed.{Listed}
 use Rattle.netlist.proofs.reader.Reader.chips.Given as goal

@@ -1,4 +1,4 @@
-use Rattle.std.proofs.Common.{◌≡◌, ◌≤◌, ◌⊎◌, Some, None, inl, inr, arith, rules}
+use Rattle.std.proofs.Common.{◌≡◌, ◌≤◌, ◌⊎◌, inl, inr, arith}
 use Rattle.netlist.proofs.Numbers.{over_first, over_more, over_all, over_none, over_nothing}
 use Rattle.netlist.proofs.reader.Reader.number.Goals as goal
 use Rattle.netlist.proofs.reader.Reader.number.Goals.{then-loop-value-test+else-value-lt-THREE_DIGITS, else-loop-value-test}
