@@ -4,7 +4,7 @@ use lib.Signed.{lt_z}
 use Rattle.std.proofs.lemmas.Fmt.{decimal_digit, decimal_step}
 use Rattle.std.proofs.lemmas.List.{append_assoc, length-append, length_push}
 use Rattle.std.proofs.lemmas.Bool.{and_parts, false≢true, ltb-true, not-true}
-use Rattle.std.specs.List.{flat_map, AllByRecursion as All}
+use Rattle.std.specs.List.{flat_map, AllByRecursion}
 use Rattle.std.specs.Fmt.{signed_decimal}
 use Rattle.sat.specs.Formula.{encode, is_zero, literals}
 use Rattle.clauses.specs.Text.{head_of, line_feed, line_of, printed, spelled}
@@ -69,7 +69,7 @@ printed_clause (z ∷ clause) h =
     ap₂ (λ a b. a ++ b) (printed_literal z (not-true (is_zero z) parts.0)) (printed_clause clause parts.1)
 
 -- a formula whose clauses hold no 0 is printed line by line
-pub printed-encode : (clauses : List (List ℤ)) → All (λ clause. literals clause ≡ true) clauses → flat_map printed (encode clauses) ≡ flat_map line_of clauses
+pub printed-encode : (clauses : List (List ℤ)) → AllByRecursion (λ clause. literals clause ≡ true) clauses → flat_map printed (encode clauses) ≡ flat_map line_of clauses
 unfolding line_of
 printed-encode [] h = refl
 printed-encode (clause ∷ clauses) h =

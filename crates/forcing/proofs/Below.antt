@@ -1,6 +1,6 @@
 -- The question that is put to the solver below has the same models, and the answer to it is the layer's own.
 use Rattle.std.proofs.Common.{◌≡◌, ℕ, ◌≤◌, min, Bool, true, false, cond, not, ◌&&◌, ltb, List, [], ◌∷◌, length, take, ℤ, Some, None, Ok, Err, Option, Result, sym, refl, ap, ◌∙◌, subst, arith}
-use Rattle.std.specs.List.{AllByRecursion as All}
+use Rattle.std.specs.List.{AllByRecursion}
 use Rattle.std.proofs.ByRecursion.{All-weaker}
 use Rattle.std.proofs.lemmas.Bool.{and_from, ltb-false, le-ltb}
 use Rattle.sat.specs.Formula.{is_true, closed, within, literals}
@@ -57,11 +57,11 @@ module _ (v : ℕ) (formula assumed : List ℤ) (values : List Value) (fixed : F
         kept = All-weaker (λ z. reads values z ≡ True) (λ z. is_true m z ≡ true) (agrees_true values m (fixed.implied m s)) (fixed_up_to values v) (fixed_reads values v);
       }
 
-  kept_above : (m : List ℕ) (zs : List ℤ) → All (λ z. is_true m z ≡ true) (fixed_up_to values v) → All (Names v) zs → All (λ z. reads values z ≡ True) zs → All (λ z. is_true m z ≡ true) zs
+  kept_above : (m : List ℕ) (zs : List ℤ) → AllByRecursion (λ z. is_true m z ≡ true) (fixed_up_to values v) → AllByRecursion (Names v) zs → AllByRecursion (λ z. reads values z ≡ True) zs → AllByRecursion (λ z. is_true m z ≡ true) zs
   kept_above m [] k n r = tt
   kept_above m (z ∷ zs) k n r = (fixed_has values (λ y. is_true m y ≡ true) v k z n.0 r.0, kept_above m zs k n.1 r.1)
 
-  pub from_below : All (Names v) assumed → (m : List ℕ) → Models v formula (fixed_up_to values v) m → Models v formula assumed m
+  pub from_below : AllByRecursion (Names v) assumed → (m : List ℕ) → Models v formula (fixed_up_to values v) m → Models v formula assumed m
   from_below n m s = record { size = s.size; bits = s.bits; clauses = s.clauses; kept = kept_above m assumed s.kept n fixed.keeps }
 
 -- the answer to the question below is one to the question
@@ -78,7 +78,7 @@ module _ {S : Type 0} (largest tally : S → ℕ) (v : ℕ) (formula assumed lis
       Answered largest tally v formula assumed before after was is r
   answered_below taken lists solved =
       let names = formed_names v formula assumed taken.formed v (omega arith) in
-      let listing = subst (All (Names v)) (sym lists.exact) (fixed_names lists.values v v (omega arith)) in
+      let listing = subst (AllByRecursion (Names v)) (sym lists.exact) (fixed_names lists.values v v (omega arith)) in
       let answer =
       solved.answered (none_from_taken (largest before) v formula listed (length was) (record {
         small = omega (arith, taken.small);

@@ -1,6 +1,6 @@
 -- From assumed literals and forcing to what is fixed of a question, or to its having no model.
 use Rattle.std.proofs.Common.{◌≡◌, ℕ, ◌≤◌, true, false, ◌&&◌, leb, List, [], ◌∷◌, replicate, ℤ, sym, refl, subst, arith}
-use Rattle.std.specs.List.{AllByRecursion as All}
+use Rattle.std.specs.List.{AllByRecursion}
 use Rattle.std.proofs.ByRecursion.{All-weaker}
 use Rattle.std.proofs.lemmas.Bool.{and_parts, and_from, both_ways, leb-true, le-leb}
 use Rattle.sat.specs.Formula.{variable, within, literals, closed}
@@ -37,7 +37,7 @@ module _ (v : ℕ) (formula zs : List ℤ) (formed : well_formed v formula zs �
   formed_assumed : (within v zs && literals zs) ≡ true
   formed_assumed = (and_parts (within v formula) (within v zs && literals zs) rest).1
 
-  pub formed_names : (w : ℕ) → v ≤ w → All (Names w) zs
+  pub formed_names : (w : ℕ) → v ≤ w → AllByRecursion (Names w) zs
   formed_names w h = let p = and_parts (within v zs) (literals zs) formed_assumed in literals_name w zs (within_wider v w zs h p.0) p.1
 
 -- from all variables open, by the assumed literals, to what forcing leaves
@@ -60,7 +60,7 @@ module _ (v : ℕ) (formula zs : List ℤ) (start middle : Values) (fresh : star
         record {
           keeps =
               All-weaker (λ z. reads middle.slots z ≡ True) (λ z. reads after z ≡ True) f.keeps zs
-              (subst (λ x. All (λ z. reads x.slots z ≡ True) zs) (sym leaves) (unopposed-true start zs (formed_names v formula zs formed 1024 h) u));
+              (subst (λ x. AllByRecursion (λ z. reads x.slots z ≡ True) zs) (sym leaves) (unopposed-true start zs (formed_names v formula zs formed 1024 h) u));
           implied = λ m s. f.implies m s.clauses (middle_agrees m s);
           ended = f.ended;
         }

@@ -1,6 +1,6 @@
 -- One forced literal made true: what is kept, what is implied, and that fewer variables are open.
 use Rattle.std.proofs.Common.{◌≡◌, ℕ, ◌<◌, true, List, length, get_or, set, ℤ, pos, negsuc, arith}
-use Rattle.std.specs.List.{AllByRecursion as All}
+use Rattle.std.specs.List.{AllByRecursion}
 use Rattle.std.proofs.ByRecursion.{all-has}
 use Rattle.sat.specs.Formula.{variable, satisfied, clauses_of, within}
 use Rattle.scan.specs.Values.{reads, truth, Agrees, opens}
@@ -19,7 +19,7 @@ truth-closed (negsuc n) e = let k : ◌≡◌ {A = ℕ} 0 1 = cc in omega arith
 
 -- every model of the clauses that agrees with the one agrees with the other
 abbrev pub Implies : List ℤ → (before after : List Value) → Type 0
-Implies formula before after = (m : List ℕ) → All (λ clause. satisfied m clause ≡ true) (clauses_of formula) → Agrees before m → Agrees after m
+Implies formula before after = (m : List ℕ) → AllByRecursion (λ clause. satisfied m clause ≡ true) (clauses_of formula) → Agrees before m → Agrees after m
 
 -- a true literal stays true
 abbrev pub Keeps : (before after : List Value) → Type 0

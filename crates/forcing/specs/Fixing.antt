@@ -1,6 +1,6 @@
 -- What forcing makes of a partial valuation, and what it fixes of a question.
 use Rattle.std.specs.Prelude.{◌≡◌, ℕ, ◌≤◌, Bool, true, cond, List, length, take, ℤ, Some, None, Option}
-use Rattle.std.specs.List.{AllByRecursion as All}
+use Rattle.std.specs.List.{AllByRecursion}
 use Rattle.sat.specs.Formula.{satisfied, clauses_of}
 use Rattle.sat.specs.Question.{Models}
 use Rattle.scan.specs.Values.{reads, Agrees}
@@ -13,12 +13,12 @@ use Rattle.forcing.specs.Listing.{fixed_up_to}
 -- forcing has ended: true literals stay true, what is fixed is implied by the clauses, and no clause tells more, or one is all false
 pub record Forces (formula : List ℤ) (before after : List Value) (quiet : Bool) : Type 0 where
   pub keeps : (z : ℤ) → reads before z ≡ True → reads after z ≡ True
-  pub implies : (m : List ℕ) → All (λ clause. satisfied m clause ≡ true) (clauses_of formula) → Agrees before m → Agrees after m
+  pub implies : (m : List ℕ) → AllByRecursion (λ clause. satisfied m clause ≡ true) (clauses_of formula) → Agrees before m → Agrees after m
   pub ended : Finds after (clauses_of formula) (cond quiet Nothing Conflict)
 
 -- what is fixed of a question: every assumed literal, and only what holds in every model; no clause tells more of it
 pub record Fixed (v : ℕ) (formula assumed : List ℤ) (values : List Value) : Type 0 where
-  pub keeps : All (λ z. reads values z ≡ True) assumed
+  pub keeps : AllByRecursion (λ z. reads values z ≡ True) assumed
   pub implied : (m : List ℕ) → Models v formula assumed m → Agrees values m
   pub ended : Finds values (clauses_of formula) Nothing
 

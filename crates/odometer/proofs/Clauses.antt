@@ -1,6 +1,6 @@
 -- The test of a question against a valuation: along a formula number by number, and as `Models` has it.
 use Rattle.std.proofs.Common.{◌≡◌, ℕ, zero, suc, ◌+◌, ◌<◌, ◌≤◌, Bool, true, false, ◌&&◌, ◌||◌, List, [], ◌∷◌, length, get_or, drop, ℤ, pos, negsuc, Decides, sym, refl, ap, ◌∙◌}
-use Rattle.std.specs.List.{AllByRecursion as All}
+use Rattle.std.specs.List.{AllByRecursion}
 use Rattle.std.proofs.lemmas.List.{at_drop_more, at_drop_all}
 use Rattle.std.proofs.lemmas.Bool.{false≢true, and_parts, and_from}
 use Rattle.std.proofs.ByRecursion.{Decides-by_and}
@@ -60,14 +60,14 @@ module _ (values : List ℕ) where
     at_end h = let s = at_drop_all (λ zs. all_from seen (clauses_of zs)) formula i h in sym s ∙ left
 
   -- the tests say what `Models` says
-  pub decides_kept : (zs : List ℤ) → Decides (every (is_true values) zs) (All (λ z. is_true values z ≡ true) zs)
+  pub decides_kept : (zs : List ℤ) → Decides (every (is_true values) zs) (AllByRecursion (λ z. is_true values z ≡ true) zs)
   decides_kept = Decides-by_and (is_true values) (λ z. is_true values z ≡ true) (every (is_true values)) (λ z. ((λ e. e), (λ e. e))) refl (λ _ _. refl)
 
-  pub decides_clauses : (clauses : List (List ℤ)) → Decides (all_satisfied values clauses) (All (λ clause. satisfied values clause ≡ true) clauses)
+  pub decides_clauses : (clauses : List (List ℤ)) → Decides (all_satisfied values clauses) (AllByRecursion (λ clause. satisfied values clause ≡ true) clauses)
   decides_clauses = Decides-by_and (satisfied values) (λ clause. satisfied values clause ≡ true) (all_satisfied values) (λ _. ((λ e. e), (λ e. e))) refl (λ _ _. refl)
 
 module _ (v : ℕ) (formula assumed : List ℤ) (values : List ℕ) where
-  pub models_from_answers : length values ≡ v → All (λ byte. byte ≤ 1) values → answers_all values formula assumed ≡ true → Models v formula assumed values
+  pub models_from_answers : length values ≡ v → AllByRecursion (λ byte. byte ≤ 1) values → answers_all values formula assumed ≡ true → Models v formula assumed values
   models_from_answers size bits a =
       let p = and_parts (every (is_true values) assumed) (all_satisfied values (clauses_of formula)) a in
       record { size = size; bits = bits; clauses = (decides_clauses values (clauses_of formula)).0 p.1; kept = (decides_kept values assumed).0 p.0 }

@@ -1,6 +1,6 @@
 -- Bytes 0 and 1 as a number: the number after it, and the one list of a length that writes it.
 use Rattle.std.proofs.Common.{◌≡◌, ℕ, zero, suc, ◌+◌, ◌-◌, ◌^◌, ◌<◌, ◌≤◌, true, false, List, [], ◌∷◌, ◌++◌, length, get_or, take, drop, set, replicate, ℤ, sym, refl, ap, ◌∙◌, subst, ⊎_elim, pow-suc, arith}
-use Rattle.std.specs.List.{AllByRecursion as All}
+use Rattle.std.specs.List.{AllByRecursion}
 use Rattle.std.proofs.lemmas.List.{append_assoc, take_more_set, drop-set-lt, set_split, at_drop_more}
 use Rattle.std.proofs.lemmas.Bool.{both_ways, cases_lt}
 use Rattle.sat.specs.Question.{Models}
@@ -9,7 +9,7 @@ use Rattle.odometer.specs.Counter.{value, has_zero, next}
 use Rattle.odometer.proofs.Clauses.{answers_from_models}
 
 abbrev pub Bits : List ℕ → Type 0
-Bits = All (λ byte. byte ≤ 1)
+Bits = AllByRecursion (λ byte. byte ≤ 1)
 
 pub bits_zeros : (n : ℕ) → Bits (replicate n 0)
 bits_zeros zero = tt

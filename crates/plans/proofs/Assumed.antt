@@ -3,7 +3,7 @@
 use Rattle.std.proofs.Common.{◌≡◌, ℕ, ◌*◌, ◌<◌, true, List, [], ◌∷◌, map, length, get_or, ℤ, Decides, sym, refl, ap, subst, arith}
 use Rattle.std.proofs.lemmas.Bool.{and_from}
 use Rattle.std.proofs.lemmas.Bool.Decides.{Decides-at}
-use Rattle.std.specs.List.{AllByRecursion as All}
+use Rattle.std.specs.List.{AllByRecursion}
 use Rattle.sat.specs.Formula.{encode, is_true, literals, within}
 use Rattle.sat.specs.Question.{Models, well_formed}
 use Rattle.board.specs.Held.{Held}
@@ -32,19 +32,19 @@ module _ {X : Type 0} (rank letter : X → ℕ) where
   picked k picks = map (λ x. goes k (rank x) (letter x)) picks
 
   abbrev pub OnBoard : Held → List X → Type 0
-  OnBoard held picks = All (λ x. (rank x < length (nets_of held.rows)) × (letter x < held.fpics)) picks
+  OnBoard held picks = AllByRecursion (λ x. (rank x < length (nets_of held.rows)) × (letter x < held.fpics)) picks
 
   abbrev pub Keeps : List Row → List X → Type 0
-  Keeps plan picks = All (λ x. get_or (letters plan) (rank x) 0 ≡ letter x) picks
+  Keeps plan picks = AllByRecursion (λ x. get_or (letters plan) (rank x) 0 ≡ letter x) picks
 
   pub true_from_keeps : (held : Held) (plan : List Row) → Fits held plan → (picks : List X) → OnBoard held picks → Keeps plan picks →
-      All (λ z. is_true (valuation_of held.fpics plan) z ≡ true) (picked held.fpics picks)
+      AllByRecursion (λ z. is_true (valuation_of held.fpics plan) z ≡ true) (picked held.fpics picks)
   true_from_keeps held plan f [] on keeps = tt
   true_from_keeps held plan f (x ∷ picks) on keeps =
       ((plan_goes held plan f (rank x) (letter x) on.0.0 on.0.1).1 keeps.0, true_from_keeps held plan f picks on.1 keeps.1)
 
   pub keeps_from_true : (held : Held) (plan : List Row) → Fits held plan → (picks : List X) → OnBoard held picks →
-      All (λ z. is_true (valuation_of held.fpics plan) z ≡ true) (picked held.fpics picks) → Keeps plan picks
+      AllByRecursion (λ z. is_true (valuation_of held.fpics plan) z ≡ true) (picked held.fpics picks) → Keeps plan picks
   keeps_from_true held plan f [] on kept = tt
   keeps_from_true held plan f (x ∷ picks) on kept =
       ((plan_goes held plan f (rank x) (letter x) on.0.0 on.0.1).0 kept.0, keeps_from_true held plan f picks on.1 kept.1)
@@ -59,7 +59,7 @@ module _ {X : Type 0} (rank letter : X → ℕ) where
       (plan : List Row) × Fits held plan × Keeps plan picks × (valuation_of held.fpics plan ≡ values)
   models_picked held lawful picks on values m =
       let found = models_plan held lawful (picked held.fpics picks) values m in
-      let kept = subst (λ v. All (λ z. is_true v z ≡ true) (picked held.fpics picks)) (sym found.2) m.kept in
+      let kept = subst (λ v. AllByRecursion (λ z. is_true v z ≡ true) (picked held.fpics picks)) (sym found.2) m.kept in
       (found.0, found.1, keeps_from_true held found.0 found.1 picks on kept, found.2)
 
   -- and the question is well formed

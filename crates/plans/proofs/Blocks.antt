@@ -5,7 +5,7 @@ use Rattle.std.proofs.ByRecursion.{All-append, All-get_or, All-map}
 use Rattle.std.proofs.lemmas.List.{ext_get_or, get_or-append-add, get_or_append_left, length-append}
 use Rattle.std.proofs.lemmas.Bool.{cond_both}
 use Rattle.std.proofs.lemmas.Bool.Decides.{nat_tests}
-use Rattle.std.specs.List.{range_with_len, flat_map, AllByRecursion as All}
+use Rattle.std.specs.List.{range_with_len, flat_map, AllByRecursion}
 use Rattle.sat.specs.Formula.{is_true}
 use Rattle.plans.specs.Clauses.{goes, valuation_of}
 use Rattle.plans.specs.Plans.{Row}
@@ -42,7 +42,7 @@ byte_at k (l ∷ ls) (suc r) t in' below =
     ∙ get_or-append-add (block k l) (valuation_by k ls) (r * k + t) 0
     ∙ byte_at k ls r t (omega arith) below
 
-pub bits : (k : ℕ) (ls : List ℕ) → All (λ byte. byte ≤ 1) (valuation_by k ls)
+pub bits : (k : ℕ) (ls : List ℕ) → AllByRecursion (λ byte. byte ≤ 1) (valuation_by k ls)
 bits k [] = tt
 bits k (l ∷ ls) =
     All-append (λ byte. byte ≤ 1) (block k l) (valuation_by k ls)
@@ -62,7 +62,7 @@ goes-true k ls r t in' below =
     (λ e. grind (arith, nat_tests), λ e. grind (arith, nat_tests))
 
 -- two lists of letters with one valuation are equal
-pub letters_once : (k : ℕ) (ls ms : List ℕ) → length ls ≡ length ms → All (λ l. l < k) ls → valuation_by k ls ≡ valuation_by k ms → ls ≡ ms
+pub letters_once : (k : ℕ) (ls ms : List ℕ) → length ls ≡ length ms → AllByRecursion (λ l. l < k) ls → valuation_by k ls ≡ valuation_by k ms → ls ≡ ms
 letters_once k ls ms long small e = ext_get_or 0 ls ms long (λ r in'. same r in')
   where
     same : (r : ℕ) → r < length ls → get_or ls r 0 ≡ get_or ms r 0

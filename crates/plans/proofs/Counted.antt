@@ -4,7 +4,7 @@ use Rattle.std.proofs.lemmas.List.FromFn.{length-range_with_len}
 use Rattle.std.proofs.ByRecursion.{All-weaker}
 use Rattle.std.proofs.lemmas.List.{length-append, length-map}
 use Rattle.std.proofs.lemmas.List.Sums.{sum_by-append, sum_by-cons}
-use Rattle.std.specs.List.{range_with_len, flat_map, AllByRecursion as All}
+use Rattle.std.specs.List.{range_with_len, flat_map, AllByRecursion}
 use Rattle.subsets.specs.Choose.{choose, subset_count}
 use Rattle.subsets.proofs.Count.{count_empty, count_more, count_none}
 use Rattle.subsets.proofs.Sublists.{choose_lengths, length-choose}
@@ -31,7 +31,7 @@ sum_by-map : {X Y : Type 0} (g : Y → ℕ) (f : X → Y) (xs : List X) → sum_
 sum_by-map g f [] = refl
 sum_by-map g f (x ∷ xs) = sum_by-cons g (f x) (map f xs) ∙ ap (λ n. g (f x) + n) (sum_by-map g f xs) ∙ sym (sum_by-cons (λ x. g (f x)) x xs)
 
-sum_by_alike : {X : Type 0} (f : X → ℕ) (c : ℕ) (xs : List X) → All (λ x. f x ≡ c) xs → sum_by f xs ≡ length xs * c
+sum_by_alike : {X : Type 0} (f : X → ℕ) (c : ℕ) (xs : List X) → AllByRecursion (λ x. f x ≡ c) xs → sum_by f xs ≡ length xs * c
 sum_by_alike f c [] h = omega arith
 sum_by_alike f c (x ∷ xs) h = omega (arith, sum_by-cons f x xs, h.0, sum_by_alike f c xs h.1)
 

@@ -2,7 +2,7 @@
 use Rattle.std.proofs.Common.{◌≡◌, zero, suc, ◌+◌, ◌-◌, Bool, true, List, [], ◌∷◌, ◌++◌, length, get_or, ℤ, pos, negsuc, refl, ap, ◌∙◌, arith}
 use Rattle.std.proofs.lemmas.List.{get_or-append-add, length-append}
 use Rattle.std.proofs.lemmas.Bool.{and_from, and_parts, false≢true}
-use Rattle.std.specs.List.{AllByRecursion as All}
+use Rattle.std.specs.List.{AllByRecursion}
 use Rattle.sat.specs.Formula.{clauses_of, closed, encode, every, into_first, is_zero, literals}
 
 -- one clause is read up to its 0
@@ -12,7 +12,7 @@ clauses_of_clause (pos zero ∷ clause) rest h = absurd (false≢true h)
 clauses_of_clause (pos (suc n) ∷ clause) rest h = ap (into_first (pos (suc n))) (clauses_of_clause clause rest h)
 clauses_of_clause (negsuc n ∷ clause) rest h = ap (into_first (negsuc n)) (clauses_of_clause clause rest h)
 
-pub clauses_of-encode : (clauses : List (List ℤ)) → All (λ clause. literals clause ≡ true) clauses → clauses_of (encode clauses) ≡ clauses
+pub clauses_of-encode : (clauses : List (List ℤ)) → AllByRecursion (λ clause. literals clause ≡ true) clauses → clauses_of (encode clauses) ≡ clauses
 clauses_of-encode [] h = refl
 clauses_of-encode (clause ∷ clauses) h =
     clauses_of_clause clause (encode clauses) h.0 ∙ ap (λ rest. clause ∷ rest) (clauses_of-encode clauses h.1)
@@ -25,7 +25,7 @@ every_append test (x ∷ xs) ys p q =
     let parts = and_parts (test x) (every test xs) p in and_from (test x) (every test (xs ++ ys)) parts.0 (every_append test xs ys parts.1 q)
 
 -- a test that passes at 0 and at each literal passes at every number
-pub every-encode : (test : ℤ → Bool) → test (pos 0) ≡ true → (clauses : List (List ℤ)) → All (λ clause. every test clause ≡ true) clauses → every test (encode clauses) ≡ true
+pub every-encode : (test : ℤ → Bool) → test (pos 0) ≡ true → (clauses : List (List ℤ)) → AllByRecursion (λ clause. every test clause ≡ true) clauses → every test (encode clauses) ≡ true
 every-encode test z [] h = refl
 every-encode test z (clause ∷ clauses) h =
     every_append test clause (pos 0 ∷ encode clauses) h.0 (and_from (test (pos 0)) (every test (encode clauses)) z (every-encode test z clauses h.1))

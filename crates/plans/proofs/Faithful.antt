@@ -5,7 +5,7 @@ use Rattle.std.proofs.ByRecursion.{All-from_get_or, All-get_or, All-map}
 use Rattle.std.proofs.lemmas.List.{ext_get_or, length-map}
 use Rattle.std.proofs.lemmas.Bool.{cases_order}
 use Rattle.std.proofs.lemmas.Bool.Decides.{nat_tests}
-use Rattle.std.specs.List.{range_with_len, AllByRecursion as All}
+use Rattle.std.specs.List.{range_with_len, AllByRecursion}
 use Rattle.sat.specs.Formula.{encode, is_true, satisfied}
 use Rattle.sat.specs.Question.{Models}
 use Rattle.board.specs.Held.{Held}
@@ -29,7 +29,7 @@ pub length_fits : (held : Held) (plan : List Row) → Fits held plan → length 
 length_fits held plan f =
     length-map plan (λ row. row.fpic) ∙ sym (length-map plan (λ row. row.number)) ∙ ap length f.nets ∙ length_numbers 1 held.rows
 
-pub letters_small : (held : Held) (plan : List Row) → Fits held plan → All (λ l. l < held.fpics) (letters plan)
+pub letters_small : (held : Held) (plan : List Row) → Fits held plan → AllByRecursion (λ l. l < held.fpics) (letters plan)
 letters_small held plan f = All-map (λ l. l < held.fpics) (λ row. row.fpic) plan f.fpics
 
 -- a byte is set where it is that of the letter
@@ -73,7 +73,7 @@ gathered P (suc n) a h =
     places l ls here there (suc i) below = subst (λ r. P r (get_or ls i 0)) (omega arith) (there i (omega arith))
 
 -- a block of bytes with one that is set is that of its letter
-module _ (k n : ℕ) (values ls : List ℕ) (bytes : All (λ byte. byte ≤ 1) values) (size : length values ≡ n * k) (long : length ls ≡ n) where
+module _ (k n : ℕ) (values ls : List ℕ) (bytes : AllByRecursion (λ byte. byte ≤ 1) values) (size : length values ≡ n * k) (long : length ls ≡ n) where
   block_read : (r t : ℕ) → r < n → t < k → get_or ls r 0 < k → get_or values (r * k + get_or ls r 0) 0 ≡ 1 → count_by (is_set values k r) (range_with_len 0 k) < 2 →
       get_or (valuation_by k ls) (r * k + t) 0 ≡ get_or values (r * k + t) 0
   block_read r t in' below small one once =
@@ -98,8 +98,8 @@ module _ (k n : ℕ) (values ls : List ℕ) (bytes : All (λ byte. byte ≤ 1) v
       ∙ ap (λ j. get_or values j 0) place
 
 -- the letters of a valuation that keeps the clauses; the valuation is theirs
-pub letters_of : (held : Held) → 1 ≤ held.fpics → (values : List ℕ) → length values ≡ length (nets_of held.rows) * held.fpics → All (λ byte. byte ≤ 1) values → Meaning held values →
-    (ls : List ℕ) × (length ls ≡ length (nets_of held.rows)) × All (λ l. l < held.fpics) ls × (valuation_by held.fpics ls ≡ values)
+pub letters_of : (held : Held) → 1 ≤ held.fpics → (values : List ℕ) → length values ≡ length (nets_of held.rows) * held.fpics → AllByRecursion (λ byte. byte ≤ 1) values → Meaning held values →
+    (ls : List ℕ) × (length ls ≡ length (nets_of held.rows)) × AllByRecursion (λ l. l < held.fpics) ls × (valuation_by held.fpics ls ≡ values)
 letters_of held pos values size bytes m =
     let k = held.fpics in
     let n = length (nets_of held.rows) in
@@ -115,7 +115,7 @@ letters_of held pos values size bytes m =
       ext_get_or 0 (valuation_by k ls) values (whole ∙ sym size) (λ i in'. bytes_read k n values ls bytes size long pos at m.once i (omega arith)),
     )
 
-pub valuation_plan : (held : Held) → Lawful held → (values : List ℕ) → length values ≡ length (nets_of held.rows) * held.fpics → All (λ byte. byte ≤ 1) values → Meaning held values →
+pub valuation_plan : (held : Held) → Lawful held → (values : List ℕ) → length values ≡ length (nets_of held.rows) * held.fpics → AllByRecursion (λ byte. byte ≤ 1) values → Meaning held values →
     (plan : List Row) × Fits held plan × (valuation_of held.fpics plan ≡ values)
 valuation_plan held lawful values size bytes m =
     let k = held.fpics in
@@ -137,7 +137,7 @@ valuation_plan held lawful values size bytes m =
       plan,
       record {
         nets = is-numbers;
-        fpics = all_unmap (λ l. l < k) (λ row. row.fpic) plan (subst (All (λ l. l < k)) (sym is-letters) found.2);
+        fpics = all_unmap (λ l. l < k) (λ row. row.fpic) plan (subst (AllByRecursion (λ l. l < k)) (sym is-letters) found.2);
         room = λ chip t. omega (arith, uses_sharing held plan is-numbers chip t, ap (sharing chip t nets) is-letters, room chip t);
       },
       valuation_letters k plan ∙ ap (valuation_by k) is-letters ∙ found.3,
@@ -148,9 +148,9 @@ valuation_plan held lawful values size bytes m =
 -- a valuation that answers the question keeps what the clauses say, and one that does answers it
 pub models_mean : (held : Held) (v : ℕ) (assumed : List ℤ) (values : List ℕ) → Models v (encode (clauses held)) assumed values → Meaning held values
 models_mean held v assumed values m =
-    meaning held values (subst (All (λ clause. satisfied values clause ≡ true)) (clauses_of-encode (clauses held) (no_zero held)) m.clauses)
+    meaning held values (subst (AllByRecursion (λ clause. satisfied values clause ≡ true)) (clauses_of-encode (clauses held) (no_zero held)) m.clauses)
 
-pub plan_models : (held : Held) (plan : List Row) (assumed : List ℤ) → Fits held plan → All (λ z. is_true (valuation_of held.fpics plan) z ≡ true) assumed →
+pub plan_models : (held : Held) (plan : List Row) (assumed : List ℤ) → Fits held plan → AllByRecursion (λ z. is_true (valuation_of held.fpics plan) z ≡ true) assumed →
     Models (length (nets_of held.rows) * held.fpics) (encode (clauses held)) assumed (valuation_of held.fpics plan)
 plan_models held plan assumed f kept =
     let k = held.fpics in
@@ -158,9 +158,9 @@ plan_models held plan assumed f kept =
     let sat = from_meaning held (valuation_by k (letters plan)) (plan_means held plan f) in
     record {
       size = ap length same ∙ length_valuation k (letters plan) ∙ ap (λ n. n * k) (length_fits held plan f);
-      bits = subst (All (λ byte. byte ≤ 1)) (sym same) (bits k (letters plan));
-      clauses = subst (All (λ clause. satisfied (valuation_of k plan) clause ≡ true)) (sym (clauses_of-encode (clauses held) (no_zero held)))
-          (subst (λ v. All (λ clause. satisfied v clause ≡ true) (clauses held)) (sym same) sat);
+      bits = subst (AllByRecursion (λ byte. byte ≤ 1)) (sym same) (bits k (letters plan));
+      clauses = subst (AllByRecursion (λ clause. satisfied (valuation_of k plan) clause ≡ true)) (sym (clauses_of-encode (clauses held) (no_zero held)))
+          (subst (λ v. AllByRecursion (λ clause. satisfied v clause ≡ true) (clauses held)) (sym same) sat);
       kept = kept;
     }
 

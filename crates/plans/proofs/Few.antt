@@ -3,18 +3,18 @@ use Rattle.std.proofs.Common.{◌≡◌, ℕ, zero, suc, ◌<◌, Bool, true, fa
 use Rattle.std.proofs.ByRecursion.{All-append, All-map, All-weaker}
 use Rattle.std.proofs.lemmas.List.Sums.{sum_by-cons}
 use Rattle.std.proofs.lemmas.Bool.{cases_Bool, false≢true, or_left, or_right}
-use Rattle.std.specs.List.{AllByRecursion as All}
+use Rattle.std.specs.List.{AllByRecursion}
 use Rattle.subsets.specs.Choose.{choose}
 use Rattle.sat.specs.Formula.{is_true, satisfied}
 use Rattle.plans.proofs.Elements.{all_left, all_of, all_right, all_unmap, any}
 
-pub all_choose : {X : Type 0} (P : X → Type 0) (s : ℕ) (xs : List X) → All P xs → All (All P) (choose s xs)
+pub all_choose : {X : Type 0} (P : X → Type 0) (s : ℕ) (xs : List X) → AllByRecursion P xs → AllByRecursion (AllByRecursion P) (choose s xs)
 unfolding choose
 all_choose P zero xs h = (tt, tt)
 all_choose P (suc s) [] h = tt
 all_choose P (suc s) (x ∷ xs) h =
-    All-append (All P) _ _
-    (All-map (All P) (λ ys. x ∷ ys) (choose s xs) (All-weaker (All P) (λ ys. All P (x ∷ ys)) (λ ys a. (h.0, a)) (choose s xs) (all_choose P s xs h.1)))
+    All-append (AllByRecursion P) _ _
+    (All-map (AllByRecursion P) (λ ys. x ∷ ys) (choose s xs) (All-weaker (AllByRecursion P) (λ ys. AllByRecursion P (x ∷ ys)) (λ ys a. (h.0, a)) (choose s xs) (all_choose P s xs h.1)))
     (all_choose P (suc s) xs h.1)
 
 module _ {X : Type 0} (test : X → Bool) where
@@ -28,7 +28,7 @@ module _ {X : Type 0} (test : X → Bool) where
   passes : (x : X) (xs : List X) → test x ≡ true → failing (x ∷ xs) ≡ failing xs
   passes x xs e = let n : ◌≡◌ {A = ℕ} (cond (not (test x)) 1 0) 0 = ap (λ b. cond (not b) 1 0) e in omega (arith, sum_by-cons (λ y. cond (not (test y)) 1 0) x xs)
 
-  pub few_from_choose : (s : ℕ) (xs : List X) → All (λ ys. any test ys ≡ true) (choose s xs) → count_by (λ x. not (test x)) xs < s
+  pub few_from_choose : (s : ℕ) (xs : List X) → AllByRecursion (λ ys. any test ys ≡ true) (choose s xs) → count_by (λ x. not (test x)) xs < s
   unfolding choose
   few_from_choose zero xs h = absurd (false≢true h.0)
   few_from_choose (suc s) [] h = omega arith
@@ -43,7 +43,7 @@ module _ {X : Type 0} (test : X → Bool) where
       omega (arith, fails x xs e))
       (cases_Bool (test x))
 
-  pub choose_from_few : (s : ℕ) (xs : List X) → count_by (λ x. not (test x)) xs < s → All (λ ys. any test ys ≡ true) (choose s xs)
+  pub choose_from_few : (s : ℕ) (xs : List X) → count_by (λ x. not (test x)) xs < s → AllByRecursion (λ ys. any test ys ≡ true) (choose s xs)
   unfolding choose
   choose_from_few zero xs h = absurd (omega arith)
   choose_from_few (suc s) [] h = tt
@@ -66,14 +66,14 @@ satisfied-map values literal [] = refl
 satisfied-map values literal (x ∷ xs) = ap (λ b. is_true values (literal x) || b) (satisfied-map values literal xs)
 
 pub few_from_clauses : {X : Type 0} (values : List ℕ) (literal : X → ℤ) (s : ℕ) (xs : List X) →
-    All (λ clause. satisfied values clause ≡ true) (map (map literal) (choose s xs)) → count_by (λ x. not (is_true values (literal x))) xs < s
+    AllByRecursion (λ clause. satisfied values clause ≡ true) (map (map literal) (choose s xs)) → count_by (λ x. not (is_true values (literal x))) xs < s
 few_from_clauses values literal s xs h =
     few_from_choose (λ x. is_true values (literal x)) s xs
     (All-weaker (λ ys. satisfied values (map literal ys) ≡ true) (λ ys. any (λ x. is_true values (literal x)) ys ≡ true) (λ ys e. sym (satisfied-map values literal ys) ∙ e) (choose s xs)
     (all_unmap (λ clause. satisfied values clause ≡ true) (map literal) (choose s xs) h))
 
 pub clauses_from_few : {X : Type 0} (values : List ℕ) (literal : X → ℤ) (s : ℕ) (xs : List X) →
-    count_by (λ x. not (is_true values (literal x))) xs < s → All (λ clause. satisfied values clause ≡ true) (map (map literal) (choose s xs))
+    count_by (λ x. not (is_true values (literal x))) xs < s → AllByRecursion (λ clause. satisfied values clause ≡ true) (map (map literal) (choose s xs))
 clauses_from_few values literal s xs h =
     All-map (λ clause. satisfied values clause ≡ true) (map literal) (choose s xs)
     (All-weaker (λ ys. any (λ x. is_true values (literal x)) ys ≡ true) (λ ys. satisfied values (map literal ys) ≡ true) (λ ys e. satisfied-map values literal ys ∙ e) (choose s xs)

@@ -2,7 +2,7 @@
 use Rattle.std.proofs.Common.{◌≡◌, ℕ, suc, ◌+◌, ◌<◌, ◌≤◌, ◌⊎◌, ◌↔◌, List, [], ◌∷◌, map, get_or, Some, None, count_by, Option, sym, refl, ap, ◌∙◌, inl, inr, ⊎_elim, arith}
 use Rattle.std.proofs.ByRecursion.{All-map}
 use Rattle.std.proofs.lemmas.Bool.{cases_eq, cases_lt}
-use Rattle.std.specs.List.{range_with_len, AllByRecursion as All}
+use Rattle.std.specs.List.{range_with_len, AllByRecursion}
 use Rattle.board.specs.Held.{Held}
 use Rattle.board.specs.Laws.{Lawful}
 use Rattle.board.specs.Rows.{row_of}
@@ -16,7 +16,7 @@ use Rattle.plans.proofs.Ranges.{all_counting, counting_all}
 use Rattle.plans.proofs.Sharing.{room_everywhere, uses_sharing}
 
 -- what is decided of each element is decided of all
-all_decided : {X : Type 0} (P : X → Type 0) → ((x : X) → P x ⊎ (P x → ⊥)) → (xs : List X) → All P xs ⊎ (All P xs → ⊥)
+all_decided : {X : Type 0} (P : X → Type 0) → ((x : X) → P x ⊎ (P x → ⊥)) → (xs : List X) → AllByRecursion P xs ⊎ (AllByRecursion P xs → ⊥)
 all_decided P h [] = inl tt
 all_decided P h (x ∷ xs) =
     ⊎_elim
@@ -37,15 +37,15 @@ module _ (held : Held) (lawful : Lawful held) where
   Room plan chip t = count_by (uses held chip t) plan ≤ held.pins
 
   abbrev RoomOn : List Row → ℕ → Type 0
-  RoomOn plan chip = All (Room plan chip) (range_with_len 0 held.fpics)
+  RoomOn plan chip = AllByRecursion (Room plan chip) (range_with_len 0 held.fpics)
 
-  room_decided : (plan : List Row) → All (RoomOn plan) (range_with_len 1 held.chips) ⊎ (All (RoomOn plan) (range_with_len 1 held.chips) → ⊥)
+  room_decided : (plan : List Row) → AllByRecursion (RoomOn plan) (range_with_len 1 held.chips) ⊎ (AllByRecursion (RoomOn plan) (range_with_len 1 held.chips) → ⊥)
   room_decided plan =
       all_decided (RoomOn plan)
       (λ chip. all_decided (Room plan chip) (λ t. ⊎_elim (λ l. inr (λ h. omega arith)) (λ l. inl l) (cases_lt held.pins (count_by (uses held chip t) plan))) (range_with_len 0 held.fpics))
       (range_with_len 1 held.chips)
 
-  fits_from_room : (plan : List Row) → Shape held.fpics (numbers_from 1 held.rows) plan → All (RoomOn plan) (range_with_len 1 held.chips) → Fits held plan
+  fits_from_room : (plan : List Row) → Shape held.fpics (numbers_from 1 held.rows) plan → AllByRecursion (RoomOn plan) (range_with_len 1 held.chips) → Fits held plan
   fits_from_room plan shape room =
       let counts = uses_sharing held plan shape.0 in
       let small = All-map (λ l. l < held.fpics) (λ row. row.fpic) plan shape.1 in
@@ -76,7 +76,7 @@ LocksKept (net ∷ nets) [] = Unit {0}
 LocksKept (net ∷ nets) (l ∷ ls) = ((letter : ℕ) → net.lock ≡ Some letter → l ≡ letter) × LocksKept nets ls
 
 locks_rows : (at : ℕ → Option Net) (n : ℕ) (rows : List (Option Net)) (plan : List Row) → ((i : ℕ) → at (n + i) ≡ get_or rows i None) → map (λ row. row.number) plan ≡ numbers_from n rows →
-    All (LockKept at) plan ↔ LocksKept (nets_of rows) (letters plan)
+    AllByRecursion (LockKept at) plan ↔ LocksKept (nets_of rows) (letters plan)
 locks_rows at n [] [] same e = (λ _. tt, λ _. tt)
 locks_rows at n [] (row ∷ plan) same e = absurd (cons_nil e)
 locks_rows at n (None ∷ rows) plan same e = locks_rows at (n + 1) rows plan (λ i. ap at (omega arith) ∙ same (suc i)) e

@@ -1,7 +1,7 @@
 -- The order of plans: of two plans of the same nets one is the earlier, and of the plans that pass a test one is the earliest.
 use Rattle.std.proofs.Common.{◌≡◌, ℕ, zero, suc, ◌+◌, ◌<◌, ◌⊎◌, List, [], ◌∷◌, map, sym, refl, ap, ◌∙◌, subst, inl, inr, ⊎_elim, arith}
 use Rattle.std.proofs.lemmas.Bool.{cases_eq, cases_order}
-use Rattle.std.specs.List.{AllByRecursion as All}
+use Rattle.std.specs.List.{AllByRecursion}
 use Rattle.plans.specs.Plans.{Earlier, Row}
 use Rattle.plans.proofs.Elements.{cons_nil, nil_cons}
 
@@ -55,7 +55,7 @@ earlier_cases (a ∷ p) (b ∷ q) e =
 
 -- a plan of the nets of these numbers, with FPICs below k
 abbrev pub Shape : ℕ → List ℕ → List Row → Type 0
-Shape k numbers plan = (map (λ row. row.number) plan ≡ numbers) × All (λ row. row.fpic < k) plan
+Shape k numbers plan = (map (λ row. row.number) plan ≡ numbers) × AllByRecursion (λ row. row.fpic < k) plan
 
 -- P holds of this plan, and every other of which it holds is later
 pub record Least (k : ℕ) (numbers : List ℕ) (P : List Row → Type 0) (plan : List Row) : Type 0 where

@@ -2,15 +2,15 @@
 use Rattle.std.proofs.Common.{◌≡◌, ℕ, zero, suc, ◌+◌, ◌<◌, ◌≤◌, Bool, true, false, cond, count_by, sym, refl, ap, ◌∙◌, ⊎_elim, arith}
 use Rattle.std.proofs.lemmas.List.Sums.{sum_by-cons}
 use Rattle.std.proofs.lemmas.Bool.{cases_Bool, cases_eq, false≢true, or_cases, or_left, or_right}
-use Rattle.std.specs.List.{range_with_len, AllByRecursion as All}
+use Rattle.std.specs.List.{range_with_len, AllByRecursion}
 use Rattle.plans.proofs.Elements.{any}
 
 -- of each
-pub all_counting : (P : ℕ → Type 0) (a n : ℕ) → ((i : ℕ) → a ≤ i → i < a + n → P i) → All P (range_with_len a n)
+pub all_counting : (P : ℕ → Type 0) (a n : ℕ) → ((i : ℕ) → a ≤ i → i < a + n → P i) → AllByRecursion P (range_with_len a n)
 all_counting P a zero h = tt
 all_counting P a (suc n) h = (h a (omega arith) (omega arith), all_counting P (a + 1) n (λ i low high. h i (omega arith) (omega arith)))
 
-pub counting_all : (P : ℕ → Type 0) (a n : ℕ) → All P (range_with_len a n) → (i : ℕ) → a ≤ i → i < a + n → P i
+pub counting_all : (P : ℕ → Type 0) (a n : ℕ) → AllByRecursion P (range_with_len a n) → (i : ℕ) → a ≤ i → i < a + n → P i
 counting_all P a zero h i low high = absurd (omega arith)
 counting_all P a (suc n) h i low high =
     ⊎_elim

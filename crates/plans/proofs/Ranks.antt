@@ -2,7 +2,7 @@
 use Rattle.std.proofs.Common.{◌≡◌, ℕ, suc, ◌+◌, ◌<◌, ◌≤◌, cond, List, [], ◌∷◌, length, get_or, is_some, Some, None, Option, sym, refl, ap, ◌∙◌, ⊎_elim, arith}
 use Rattle.std.proofs.lemmas.List.Sums.{sum_by-cons}
 use Rattle.std.proofs.lemmas.Bool.{cases_Bool, cond_both, cond-false, cond-true}
-use Rattle.std.specs.List.{AllByRecursion as All}
+use Rattle.std.specs.List.{AllByRecursion}
 use Rattle.board.specs.Rows.{ends_on, has_end, load, nets}
 use Rattle.board.specs.declared.net.Net.{Net}
 use Rattle.plans.specs.Nets.{nets_of, numbers_from, ranks_from}
@@ -36,14 +36,14 @@ length_ranks r chip (Some net ∷ rows) =
     (cases_Bool (has_end net.ends chip))
 
 -- a chip's ranks are ranks of nets
-pub ranks_below : (r n chip : ℕ) (nets : List Net) → r + length nets ≤ n → All (λ rank. rank < n) (ranks_from r chip nets)
+pub ranks_below : (r n chip : ℕ) (nets : List Net) → r + length nets ≤ n → AllByRecursion (λ rank. rank < n) (ranks_from r chip nets)
 ranks_below r n chip [] h = tt
 ranks_below r n chip (net ∷ nets) h =
     let rest = ranks_below (r + 1) n chip nets (omega arith) in
-    cond_both (has_end net.ends chip) (r ∷ ranks_from (r + 1) chip nets) (ranks_from (r + 1) chip nets) (All (λ rank. rank < n)) (λ _. (omega arith, rest)) (λ _. rest)
+    cond_both (has_end net.ends chip) (r ∷ ranks_from (r + 1) chip nets) (ranks_from (r + 1) chip nets) (AllByRecursion (λ rank. rank < n)) (λ _. (omega arith, rest)) (λ _. rest)
 
 -- what holds of each row's net holds of each held net
-pub all_nets : (P : Net → Type 0) (rows : List (Option Net)) → ((i : ℕ) (net : Net) → get_or rows i None ≡ Some net → P net) → All P (nets_of rows)
+pub all_nets : (P : Net → Type 0) (rows : List (Option Net)) → ((i : ℕ) (net : Net) → get_or rows i None ≡ Some net → P net) → AllByRecursion P (nets_of rows)
 all_nets P [] h = tt
 all_nets P (None ∷ rows) h = all_nets P rows (λ i. h (suc i))
 all_nets P (Some net ∷ rows) h = (h 0 net refl, all_nets P rows (λ i. h (suc i)))

@@ -3,7 +3,7 @@ use Rattle.std.proofs.Common.{◌≡◌, ℕ, suc, ◌+◌, ◌<◌, ◌≤◌, 
 use Rattle.std.proofs.ByRecursion.{All-weaker}
 use Rattle.std.proofs.lemmas.List.Sums.{sum_by-cons}
 use Rattle.std.proofs.lemmas.Bool.{and_left, and_right, cases_Bool, cases_lt, cond-false, cond-true, ne_eqb}
-use Rattle.std.specs.List.{AllByRecursion as All}
+use Rattle.std.specs.List.{AllByRecursion}
 use Rattle.board.specs.Held.{Held}
 use Rattle.board.specs.Laws.{Lawful, LawfulNet}
 use Rattle.board.specs.Rows.{ends_on, has_end, row_of}
@@ -54,14 +54,14 @@ sharing_rows at chip t n (Some net ∷ rows) (row ∷ plan) same e =
     sum_by-cons (λ row. cond (ends_on chip (at row.number) && eqb row.fpic t) 1 0) row plan ∙ simp (here, rest)
 
 -- none where no net ends on the chip, and none at an FPIC that no net goes by
-pub sharing_no_end : (chip t : ℕ) (nets : List Net) (ls : List ℕ) → All (λ net. has_end net.ends chip ≡ false) nets → sharing chip t nets ls ≡ 0
+pub sharing_no_end : (chip t : ℕ) (nets : List Net) (ls : List ℕ) → AllByRecursion (λ net. has_end net.ends chip ≡ false) nets → sharing chip t nets ls ≡ 0
 sharing_no_end chip t [] ls h = refl
 sharing_no_end chip t (net ∷ nets) [] h = refl
 sharing_no_end chip t (net ∷ nets) (l ∷ ls) h =
     let no : ◌≡◌ {A = ℕ} (cond (has_end net.ends chip && eqb l t) 1 0) 0 = ap (λ b. cond b 1 0) (and_left (has_end net.ends chip) (eqb l t) h.0) in
     omega (arith, sharing_no_end chip t nets ls h.1)
 
-pub sharing_no_letter : (chip t : ℕ) (nets : List Net) (ls : List ℕ) → All (λ l. l < t) ls → sharing chip t nets ls ≡ 0
+pub sharing_no_letter : (chip t : ℕ) (nets : List Net) (ls : List ℕ) → AllByRecursion (λ l. l < t) ls → sharing chip t nets ls ≡ 0
 sharing_no_letter chip t [] ls h = refl
 sharing_no_letter chip t (net ∷ nets) [] h = refl
 sharing_no_letter chip t (net ∷ nets) (l ∷ ls) h =
@@ -76,7 +76,7 @@ pub uses_sharing : (held : Held) (plan : List Row) → map (λ row. row.number) 
 uses_sharing held plan e chip t = sharing_rows (row_of held.rows) chip t 1 held.rows plan (λ i. ap (λ j. get_or held.rows j None) (omega arith)) e
 
 -- room on each chip of the rack at each of its FPICs is room everywhere
-pub room_everywhere : (held : Held) → Lawful held → (ls : List ℕ) → All (λ l. l < held.fpics) ls →
+pub room_everywhere : (held : Held) → Lawful held → (ls : List ℕ) → AllByRecursion (λ l. l < held.fpics) ls →
     ((chip t : ℕ) → 1 ≤ chip → chip ≤ held.chips → t < held.fpics → sharing chip t (nets_of held.rows) ls ≤ held.pins) →
     (chip t : ℕ) → sharing chip t (nets_of held.rows) ls ≤ held.pins
 room_everywhere held lawful ls small h chip t =

@@ -3,7 +3,7 @@ use Rattle.std.proofs.Common.{◌≡◌, ℕ, suc, ◌+◌, ◌*◌, ◌<◌, �
 use Rattle.std.proofs.lemmas.Nat.{mul-add-lt, mul-le}
 use Rattle.std.proofs.ByRecursion.{All-weaker}
 use Rattle.std.proofs.lemmas.Bool.{and_from, and_parts, le-leb, leb-true}
-use Rattle.std.specs.List.{AllByRecursion as All}
+use Rattle.std.specs.List.{AllByRecursion}
 use Rattle.sat.specs.Formula.{closed, encode, is_zero, literals, variable, within}
 use Rattle.sat.specs.Question.{well_formed}
 use Rattle.board.specs.Held.{Held}
@@ -53,11 +53,11 @@ nets_at_most (Some net ∷ rows) = omega (arith, nets_at_most rows)
 pub variables_at_most : (held : Held) → Lawful held → length held.rows ≤ 128 → length (nets_of held.rows) * held.fpics ≤ 1024
 variables_at_most held lawful long = omega (arith, mul-le (length (nets_of held.rows)) held.fpics 128 8 (omega (arith, nets_at_most held.rows)) lawful.fpics.1)
 
-within_all : (v : ℕ) (zs : List ℤ) → within v zs ≡ true → All (λ z. nat_abs z ≤ v) zs
+within_all : (v : ℕ) (zs : List ℤ) → within v zs ≡ true → AllByRecursion (λ z. nat_abs z ≤ v) zs
 within_all v [] h = tt
 within_all v (z ∷ zs) h = let parts = and_parts (leb (variable z) v) (within v zs) h in (leb-true (nat_abs z) v parts.0, within_all v zs parts.1)
 
-pub numbers_at_most : (held : Held) → Lawful held → length held.rows ≤ 128 → All (λ z. nat_abs z ≤ 1024) (encode (clauses held))
+pub numbers_at_most : (held : Held) → Lawful held → length held.rows ≤ 128 → AllByRecursion (λ z. nat_abs z ≤ 1024) (encode (clauses held))
 numbers_at_most held lawful long =
     let v = length (nets_of held.rows) * held.fpics in
     let few = variables_at_most held lawful long in

@@ -1,6 +1,6 @@
 -- Plans, which of them are legal, and which of two is the earlier.
 use Rattle.std.specs.Prelude.{◌≡◌, ℕ, ◌<◌, ◌≤◌, Bool, ◌&&◌, ◌⊎◌, List, [], ◌∷◌, map, Some, count_by, ◌==◌, ◌≢◌}
-use Rattle.std.specs.List.{AllByRecursion as All}
+use Rattle.std.specs.List.{AllByRecursion}
 use Rattle.board.specs.Held.{Held}
 use Rattle.board.specs.Rows.{ends_on, row_of}
 use Rattle.plans.specs.Nets.{lock_of, numbers_from}
@@ -18,13 +18,13 @@ uses held chip t row = ends_on chip (row_of held.rows row.number) && row.fpic ==
 -- for each chip and each FPIC at most m of the nets ending on that chip go by that FPIC
 pub record Fits (held : Held) (plan : List Row) : Type 0 where
   pub nets : map (λ row. row.number) plan ≡ numbers_from 1 held.rows
-  pub fpics : All (λ row. row.fpic < held.fpics) plan
+  pub fpics : AllByRecursion (λ row. row.fpic < held.fpics) plan
   pub room : (chip t : ℕ) → count_by (uses held chip t) plan ≤ held.pins
 
 -- a legal plan fits the rack, and each locked net goes by its lock
 pub record Legal (held : Held) (plan : List Row) : Type 0 where
   pub fits : Fits held plan
-  pub locks : All (λ row. (letter : ℕ) → lock_of (row_of held.rows row.number) ≡ Some letter → row.fpic ≡ letter) plan
+  pub locks : AllByRecursion (λ row. (letter : ℕ) → lock_of (row_of held.rows row.number) ≡ Some letter → row.fpic ≡ letter) plan
 
 -- of two plans of the same nets, the earlier has the earlier letter at the lowest net number where they differ
 abbrev pub Earlier : List Row → List Row → Type 0

@@ -1,7 +1,7 @@
 -- What a solver means: which valuations answer a question, which questions are refused, and what `solve` leaves.
 -- A question is a number of variables v, a formula and a list of assumed literals.
 use Rattle.std.specs.Prelude.{◌≡◌, ℕ, ◌+◌, ◌%◌, ◌^◌, ◌≤◌, Bool, true, cond, not, ◌&&◌, List, length, take, drop, replicate, ℤ, Some, None, Ok, Err, Option, Result, nat_lt}
-use Rattle.std.specs.List.{AllByRecursion as All}
+use Rattle.std.specs.List.{AllByRecursion}
 use Rattle.sat.specs.Formula.{is_true, satisfied, clauses_of, within, closed, literals}
 use Rattle.sat.specs.declared.question.Refusal.{Refusal}
 use Rattle.sat.specs.declared.question.Refusal.TheVariants.{TooManyVariables, IllFormed, ShortValuation}
@@ -11,9 +11,9 @@ use Rattle.sat.specs.declared.question.Verdict.TheVariants.{Yes, No}
 -- the valuation answers the question: a byte 0 or 1 for each variable, a true literal in every clause, every assumed literal true
 pub record Models (v : ℕ) (formula assumed : List ℤ) (values : List ℕ) : Type 0 where
   pub size : length values ≡ v
-  pub bits : All (λ byte. byte ≤ 1) values
-  pub clauses : All (λ clause. satisfied values clause ≡ true) (clauses_of formula)
-  pub kept : All (λ z. is_true values z ≡ true) assumed
+  pub bits : AllByRecursion (λ byte. byte ≤ 1) values
+  pub clauses : AllByRecursion (λ clause. satisfied values clause ≡ true) (clauses_of formula)
+  pub kept : AllByRecursion (λ z. is_true values z ≡ true) assumed
 
 -- a question is well formed: the formula is empty or ends with 0, no literal names a variable above v, no assumed literal is 0
 abbrev pub well_formed : ℕ → List ℤ → List ℤ → Bool

@@ -1,6 +1,6 @@
 -- Valuations that agree with a partial one: what they make of its literals and clauses, and how they follow its changes.
 use Rattle.std.proofs.Common.{◌≡◌, ℕ, zero, suc, true, false, ◌⊎◌, List, [], ◌∷◌, length, get_or, set, replicate, ℤ, pos, negsuc, sym, refl, ap, ◌∙◌, subst, ⊎_elim, arith}
-use Rattle.std.specs.List.{AllByRecursion as All}
+use Rattle.std.specs.List.{AllByRecursion}
 use Rattle.std.proofs.lemmas.List.{get_or-set_same, get_or-set_other, set_past}
 use Rattle.std.proofs.lemmas.Bool.{eq-eqb, ne_eqb, eqb-true, cases_eq, cases_lt, or_cases, or_from, both_ways}
 use Rattle.sat.specs.Formula.{variable, is_true, satisfied}
@@ -37,7 +37,7 @@ module _ (values : List Value) (m : List ℕ) (a : Agrees values m) where
   agrees_false (pos (suc n)) e = let b : get_or m n 0 ≡ 0 = byte_is n False e in ne_eqb (get_or m n 0) 1 (λ h. omega arith)
   agrees_false (negsuc n) e = let b : get_or m n 0 ≡ 1 = byte_is n True (opposite-false (get_or values (suc n) Open) e) in ne_eqb (get_or m n 0) 0 (λ h. omega arith)
 
-  all_false_fails : (clause : List ℤ) → All (λ z. reads values z ≡ False) clause → satisfied m clause ≡ false
+  all_false_fails : (clause : List ℤ) → AllByRecursion (λ z. reads values z ≡ False) clause → satisfied m clause ≡ false
   all_false_fails [] h = refl
   all_false_fails (z ∷ clause) h = or_from (is_true m z) (satisfied m clause) (agrees_false z h.0) (all_false_fails clause h.1)
 
@@ -45,7 +45,7 @@ module _ (values : List Value) (m : List ℕ) (a : Agrees values m) where
   pub conflict_fails : (clause : List ℤ) → judged values clause ≡ AllFalse → satisfied m clause ≡ false
   conflict_fails clause e = all_false_fails clause (subst (Means values clause) e (judged_means values clause))
 
-  last_holds : (last : ℤ) (clause : List ℤ) → All (λ z. (z ≡ last) ⊎ (reads values z ≡ False)) clause → satisfied m clause ≡ true → is_true m last ≡ true
+  last_holds : (last : ℤ) (clause : List ℤ) → AllByRecursion (λ z. (z ≡ last) ⊎ (reads values z ≡ False)) clause → satisfied m clause ≡ true → is_true m last ≡ true
   last_holds last [] h s = cc
   last_holds last (z ∷ clause) h s =
       ⊎_elim

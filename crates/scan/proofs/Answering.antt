@@ -1,6 +1,6 @@
 -- The valuation read off a partial one in which no variable is open.
 use Rattle.std.proofs.Common.{◌≡◌, ℕ, zero, suc, ◌<◌, ◌≤◌, true, eqb, List, [], ◌∷◌, map, length, get_or, take, drop, ℤ, pos, negsuc, refl, ap, ◌∙◌, arith}
-use Rattle.std.specs.List.{ContainsAt as Has, AllByRecursion as All}
+use Rattle.std.specs.List.{ContainsAt as Has, AllByRecursion}
 use Rattle.std.proofs.lemmas.List.{length-map, length-take-le, length-drop, get_or-map, get_or-take, get_or-drop}
 use Rattle.std.proofs.ByRecursion.{all-has}
 use Rattle.std.proofs.lemmas.Bool.{or_left, or_right}
@@ -25,7 +25,7 @@ byte_bit Open = omega arith
 byte_bit True = omega arith
 byte_bit False = omega arith
 
-all_bits : (values : List Value) → All (λ b. b ≤ 1) (map byte values)
+all_bits : (values : List Value) → AllByRecursion (λ b. b ≤ 1) (map byte values)
 all_bits [] = tt
 all_bits (v ∷ values) = (byte_bit v, all_bits values)
 
@@ -66,22 +66,22 @@ module _ (v : ℕ) (values : List Value) (room : v < length values) where
     closed_literal (pos (suc n)) h e = all n (omega (arith, h.1)) e
     closed_literal (negsuc n) h e = all n (omega (arith, h.1)) (slot_open values (negsuc n) refl e)
 
-    quiet_holds : (clause : List ℤ) (s : Standing) → All (Names v) clause → Means values clause s → tells s ≡ Nothing → satisfied (read_off v values) clause ≡ true
+    quiet_holds : (clause : List ℤ) (s : Standing) → AllByRecursion (Names v) clause → Means values clause s → tells s ≡ Nothing → satisfied (read_off v values) clause ≡ true
     quiet_holds clause Undecided h k e = absurd (closed_literal k.0 (all-has (Names v) clause k.0 h k.1) k.2)
     quiet_holds clause Satisfied h k e = has_satisfies (read_off v values) clause k.0 k.1 (off_true k.0 (all-has (Names v) clause k.0 h k.1) k.2)
     quiet_holds clause AllFalse h k e = cc
     quiet_holds clause (Forcing z) h k e = cc
 
-    quiet_clauses : (clauses : List (List ℤ)) → All (All (Names v)) clauses → Finds values clauses Nothing → All (λ clause. satisfied (read_off v values) clause ≡ true) clauses
+    quiet_clauses : (clauses : List (List ℤ)) → AllByRecursion (AllByRecursion (Names v)) clauses → Finds values clauses Nothing → AllByRecursion (λ clause. satisfied (read_off v values) clause ≡ true) clauses
     quiet_clauses [] h k = tt
     quiet_clauses (clause ∷ clauses) h k = (quiet_holds clause (judged values clause) h.0 (judged_means values clause) k.0, quiet_clauses clauses h.1 k.1)
 
-    off_kept : (zs : List ℤ) → All (Names v) zs → All (λ z. reads values z ≡ True) zs → All (λ z. is_true (read_off v values) z ≡ true) zs
+    off_kept : (zs : List ℤ) → AllByRecursion (Names v) zs → AllByRecursion (λ z. reads values z ≡ True) zs → AllByRecursion (λ z. is_true (read_off v values) z ≡ true) zs
     off_kept [] h k = tt
     off_kept (z ∷ zs) h k = (off_true z h.0 k.0, off_kept zs h.1 k.1)
 
     -- where no clause tells anything and the assumed literals are true, the valuation answers the question
-    pub off_models : (formula assumed : List ℤ) → within v formula ≡ true → All (Names v) assumed → Finds values (clauses_of formula) Nothing → All (λ z. reads values z ≡ True) assumed →
+    pub off_models : (formula assumed : List ℤ) → within v formula ≡ true → AllByRecursion (Names v) assumed → Finds values (clauses_of formula) Nothing → AllByRecursion (λ z. reads values z ≡ True) assumed →
         Models v formula assumed (read_off v values)
     off_models formula assumed w h k t = record {
       size = off_size;

@@ -2,7 +2,7 @@
 use Rattle.std.proofs.Common.{◌≡◌, ℕ, ◌+◌, ◌<◌, ◌≤◌, true, false, List, [], ◌∷◌, length, get_or, drop, ℤ, pos, sym, refl, ap, ◌∙◌, arith, w16, SFits, to_z, of_z}
 use Rattle.std.proofs.lemmas.List.{at_drop_more, at_drop_all}
 use Rattle.std.proofs.lemmas.Int.{to_z-of_z}
-use Rattle.std.specs.List.{AllByRecursion as All}
+use Rattle.std.specs.List.{AllByRecursion}
 use Rattle.std.proofs.lemmas.Bool.{both_ways, false≢true}
 use Rattle.sat.specs.Formula.{variable, is_zero, is_true}
 use Rattle.scan.specs.Values.{by_value, truth, reads, Agrees}
@@ -35,20 +35,20 @@ module _ (values : Values) (zs : List ℤ) (i : ℕ) where
   unopposed_end h = at_drop_all (unopposed values) zs i h
 
 -- a valuation in which every literal of the list is true still agrees
-pub assumed_agrees : (values : Values) (zs : List ℤ) (m : List ℕ) → All (λ z. is_true m z ≡ true) zs → Agrees values.slots m → Agrees (assumed values zs).slots m
+pub assumed_agrees : (values : Values) (zs : List ℤ) (m : List ℕ) → AllByRecursion (λ z. is_true m z ≡ true) zs → Agrees values.slots m → Agrees (assumed values zs).slots m
 assumed_agrees values [] m t a = a
 assumed_agrees values (z ∷ zs) m t a =
     elim (reads values.slots z) as (λ v. Agrees (by_value v (assumed (assigned values z) zs) (assumed values zs) values).slots m)
     [ Open ↦ assumed_agrees (assigned values z) zs m t.1 (agrees_assign values.slots m z a t.0) | True ↦ assumed_agrees values zs m t.1 a | False ↦ a ]
 
-opposed_by : (values : Values) (z : ℤ) (zs : List ℤ) (m : List ℕ) (v : Value) → reads values.slots z ≡ v → All (λ y. is_true m y ≡ true) (z ∷ zs) → Agrees values.slots m →
+opposed_by : (values : Values) (z : ℤ) (zs : List ℤ) (m : List ℕ) (v : Value) → reads values.slots z ≡ v → AllByRecursion (λ y. is_true m y ≡ true) (z ∷ zs) → Agrees values.slots m →
     (Agrees (assigned values z).slots m → unopposed (assigned values z) zs ≡ true) → unopposed values zs ≡ true → by_value v (unopposed (assigned values z) zs) (unopposed values zs) false ≡ true
 opposed_by values z zs m Open r t a o h = o (agrees_assign values.slots m z a t.0)
 opposed_by values z zs m True r t a o h = h
 opposed_by values z zs m False r t a o h = absurd (both_ways (is_true m z) (agrees_false values.slots m a z r) t.0)
 
 -- literals that are all true in a valuation that agrees are not opposed
-pub agrees_unopposed : (values : Values) (zs : List ℤ) (m : List ℕ) → All (λ z. is_true m z ≡ true) zs → Agrees values.slots m → unopposed values zs ≡ true
+pub agrees_unopposed : (values : Values) (zs : List ℤ) (m : List ℕ) → AllByRecursion (λ z. is_true m z ≡ true) zs → Agrees values.slots m → unopposed values zs ≡ true
 agrees_unopposed values [] m t a = refl
 agrees_unopposed values (z ∷ zs) m t a =
     opposed_by values z zs m (reads values.slots z) refl t a (agrees_unopposed (assigned values z) zs m t.1) (agrees_unopposed values zs m t.1 a)
@@ -61,20 +61,20 @@ keeps_by values z y zs True r n t o h = h
 keeps_by values z y zs False r n t o h = t
 
 -- a true literal stays true
-pub assumed_keeps : (values : Values) (zs : List ℤ) (y : ℤ) → All (Names 1024) zs → reads values.slots y ≡ True → reads (assumed values zs).slots y ≡ True
+pub assumed_keeps : (values : Values) (zs : List ℤ) (y : ℤ) → AllByRecursion (Names 1024) zs → reads values.slots y ≡ True → reads (assumed values zs).slots y ≡ True
 assumed_keeps values [] y h t = t
 assumed_keeps values (z ∷ zs) y h t =
     keeps_by values z y zs (reads values.slots z) refl h.0.0 t (assumed_keeps (assigned values z) zs y h.1) (assumed_keeps values zs y h.1 t)
 
-true_by : (values : Values) (z : ℤ) (zs : List ℤ) (v : Value) → reads values.slots z ≡ v → All (Names 1024) (z ∷ zs) → by_value v (unopposed (assigned values z) zs) (unopposed values zs) false ≡ true →
-    (unopposed (assigned values z) zs ≡ true → All (λ y. reads (assumed (assigned values z) zs).slots y ≡ True) zs) → (unopposed values zs ≡ true → All (λ y. reads (assumed values zs).slots y ≡ True) zs) →
-    All (λ y. reads (by_value v (assumed (assigned values z) zs) (assumed values zs) values).slots y ≡ True) (z ∷ zs)
+true_by : (values : Values) (z : ℤ) (zs : List ℤ) (v : Value) → reads values.slots z ≡ v → AllByRecursion (Names 1024) (z ∷ zs) → by_value v (unopposed (assigned values z) zs) (unopposed values zs) false ≡ true →
+    (unopposed (assigned values z) zs ≡ true → AllByRecursion (λ y. reads (assumed (assigned values z) zs).slots y ≡ True) zs) → (unopposed values zs ≡ true → AllByRecursion (λ y. reads (assumed values zs).slots y ≡ True) zs) →
+    AllByRecursion (λ y. reads (by_value v (assumed (assigned values z) zs) (assumed values zs) values).slots y ≡ True) (z ∷ zs)
 true_by values z zs Open r h u o t =
     (assumed_keeps (assigned values z) zs z h.1 (assign_true values.slots z h.0.0 (omega (arith, h.0.1, values.long))), o u)
 true_by values z zs True r h u o t = (assumed_keeps values zs z h.1 r, t u)
 true_by values z zs False r h u o t = absurd (false≢true u)
 
 -- literals that are not opposed are true in the end
-pub unopposed-true : (values : Values) (zs : List ℤ) → All (Names 1024) zs → unopposed values zs ≡ true → All (λ z. reads (assumed values zs).slots z ≡ True) zs
+pub unopposed-true : (values : Values) (zs : List ℤ) → AllByRecursion (Names 1024) zs → unopposed values zs ≡ true → AllByRecursion (λ z. reads (assumed values zs).slots z ≡ True) zs
 unopposed-true values [] h u = tt
 unopposed-true values (z ∷ zs) h u = true_by values z zs (reads values.slots z) refl h u (unopposed-true (assigned values z) zs h.1) (unopposed-true values zs h.1)

@@ -1,6 +1,6 @@
 -- What a round found, for the models of the question.
 use Rattle.std.proofs.Common.{◌≡◌, ℕ, true, List, ℤ, subst}
-use Rattle.std.specs.List.{AllByRecursion as All}
+use Rattle.std.specs.List.{AllByRecursion}
 use Rattle.std.proofs.ByRecursion.{all-has}
 use Rattle.std.proofs.lemmas.Bool.{both_ways}
 use Rattle.sat.specs.Formula.{is_true, satisfied, clauses_of, within}
@@ -30,4 +30,4 @@ module _ (v : ℕ) (formula assumed : List ℤ) (values : List Value) where
 pub forced_names : (v : ℕ) (formula : List ℤ) (values : List Value) (z : ℤ) → within v formula ≡ true → Finds values (clauses_of formula) (Forced z) → Names v z × (reads values z ≡ Open)
 forced_names v formula values z w f =
     let k : Means values f.0 (Forcing z) = subst (Means values f.0) f.2 (judged_means values f.0) in
-    (all-has (Names v) f.0 z (all-has (All (Names v)) (clauses_of formula) f.0 (clauses_name v formula w) f.1) k.0, k.1)
+    (all-has (Names v) f.0 z (all-has (AllByRecursion (Names v)) (clauses_of formula) f.0 (clauses_name v formula w) f.1) k.0, k.1)

@@ -1,6 +1,6 @@
 -- Literals that name one of the variables 1 to v, and what they are after a change of the values.
 use Rattle.std.proofs.Common.{◌≡◌, ℕ, zero, suc, ◌<◌, ◌≤◌, true, false, not, leb, List, [], ◌∷◌, length, get_or, set, ℤ, pos, negsuc, sym, refl, ap, ◌∙◌, ⊎_elim, arith}
-use Rattle.std.specs.List.{AllByRecursion as All}
+use Rattle.std.specs.List.{AllByRecursion}
 use Rattle.std.proofs.lemmas.List.{get_or-set_same, get_or-set_other, set-set, set-get_or, get_or_past, length-set}
 use Rattle.std.proofs.lemmas.Bool.{and_parts, not-true, leb-true, cases_lt, cases_Bool}
 use Rattle.sat.specs.Formula.{variable, is_zero, into_first, clauses_of, within, literals}
@@ -12,19 +12,19 @@ use Rattle.scan.specs.declared.value.Value.TheVariants.{Open, True, False}
 abbrev pub Names : ℕ → ℤ → Type 0
 Names v z = (is_zero z ≡ false) × (variable z ≤ v)
 
-pub literals_name : (v : ℕ) (zs : List ℤ) → within v zs ≡ true → literals zs ≡ true → All (Names v) zs
+pub literals_name : (v : ℕ) (zs : List ℤ) → within v zs ≡ true → literals zs ≡ true → AllByRecursion (Names v) zs
 literals_name v [] w l = tt
 literals_name v (z ∷ zs) w l =
     let p : _ = and_parts (leb (variable z) v) (within v zs) w in
     let q : _ = and_parts (not (is_zero z)) (literals zs) l in
     ((not-true (is_zero z) q.0, leb-true (variable z) v p.0), literals_name v zs p.1 q.1)
 
-first_name : (v : ℕ) (z : ℤ) (clauses : List (List ℤ)) → Names v z → All (All (Names v)) clauses → All (All (Names v)) (into_first z clauses)
+first_name : (v : ℕ) (z : ℤ) (clauses : List (List ℤ)) → Names v z → AllByRecursion (AllByRecursion (Names v)) clauses → AllByRecursion (AllByRecursion (Names v)) (into_first z clauses)
 first_name v z [] h k = tt
 first_name v z (clause ∷ clauses) h k = ((h, k.0), k.1)
 
 -- the literals of a formula's clauses
-pub clauses_name : (v : ℕ) (formula : List ℤ) → within v formula ≡ true → All (All (Names v)) (clauses_of formula)
+pub clauses_name : (v : ℕ) (formula : List ℤ) → within v formula ≡ true → AllByRecursion (AllByRecursion (Names v)) (clauses_of formula)
 clauses_name v [] w = tt
 clauses_name v (z ∷ formula) w =
     let p : _ = and_parts (leb (variable z) v) (within v formula) w in

@@ -1,6 +1,6 @@
 -- What is so of a clause by its judgement.
 use Rattle.std.proofs.Common.{◌≡◌, ℕ, true, false, cond, ◌||◌, ◌⊎◌, List, [], ◌∷◌, ℤ, pos, negsuc, Option, sym, refl, ap, subst, inl, inr, ⊎_elim, arith}
-use Rattle.std.specs.List.{ContainsAt as Has, AllByRecursion as All}
+use Rattle.std.specs.List.{ContainsAt as Has, AllByRecursion}
 use Rattle.std.proofs.ByRecursion.{All-weaker, all-has, all_has_itself, all_kept_by, kept_by_passes, has_get_or, has_append_right}
 use Rattle.std.proofs.lemmas.Bool.{and_parts, eqb-true, cond_both}
 use Rattle.sat.specs.Formula.{every}
@@ -26,7 +26,7 @@ same_is (pos m) (negsuc n) e = let z : ◌≡◌ {A = ℕ} 0 1 = cc in absurd (o
 same_is (negsuc m) (pos n) e = let z : ◌≡◌ {A = ℕ} 0 1 = cc in absurd (omega arith)
 same_is (negsuc m) (negsuc n) e = ap negsuc (eqb-true m n e)
 
-every-same : (z : ℤ) (zs : List ℤ) → every (same z) zs ≡ true → All (λ y. y ≡ z) zs
+every-same : (z : ℤ) (zs : List ℤ) → every (same z) zs ≡ true → AllByRecursion (λ y. y ≡ z) zs
 every-same z [] e = tt
 every-same z (y ∷ zs) e = let p : _ = and_parts (same z y) (every (same z) zs) e in (sym (same_is z y p.0), every-same z zs p.1)
 
@@ -36,18 +36,18 @@ module _ (values : List Value) where
   open_is True e = let z : ◌≡◌ {A = ℕ} 0 1 = cc in absurd (omega arith)
   open_is False e = let z : ◌≡◌ {A = ℕ} 0 1 = cc in absurd (omega arith)
 
-  opens_are : (clause zs : List ℤ) → All (Has clause) zs → All (λ z. is_open (reads values z) ≡ true) zs → All (λ z. Has clause z × (reads values z ≡ Open)) zs
+  opens_are : (clause zs : List ℤ) → AllByRecursion (Has clause) zs → AllByRecursion (λ z. is_open (reads values z) ≡ true) zs → AllByRecursion (λ z. Has clause z × (reads values z ≡ Open)) zs
   opens_are clause [] h k = tt
   opens_are clause (z ∷ zs) h k = ((h.0, open_is (reads values z) k.0), opens_are clause zs h.1 k.1)
 
   -- the open literals are open literals of the clause
-  opens_in : (clause : List ℤ) → All (λ z. Has clause z × (reads values z ≡ Open)) (open_in values clause)
+  opens_in : (clause : List ℤ) → AllByRecursion (λ z. Has clause z × (reads values z ≡ Open)) (open_in values clause)
   opens_in clause =
       opens_are clause (open_in values clause) (all_kept_by (λ z. is_open (reads values z)) (Has clause) clause (all_has_itself clause)) (kept_by_passes (λ z. is_open (reads values z)) clause)
 
   rest_by : (z : ℤ) (clause : List ℤ) (v : Value) → reads values z ≡ v → (is_held v || held values clause) ≡ false →
-      (held values clause ≡ false → All (λ y. (reads values y ≡ False) ⊎ Has (open_in values clause) y) clause) →
-      All (λ y. (reads values y ≡ False) ⊎ Has (cond (is_open v) (z ∷ open_in values clause) (open_in values clause)) y) (z ∷ clause)
+      (held values clause ≡ false → AllByRecursion (λ y. (reads values y ≡ False) ⊎ Has (open_in values clause) y) clause) →
+      AllByRecursion (λ y. (reads values y ≡ False) ⊎ Has (cond (is_open v) (z ∷ open_in values clause) (open_in values clause)) y) (z ∷ clause)
   rest_by z clause Open r e h = (
     inr (has_here z (open_in values clause)),
     All-weaker (λ y. (reads values y ≡ False) ⊎ Has (open_in values clause) y) (λ y. (reads values y ≡ False) ⊎ Has (z ∷ open_in values clause) y)
@@ -57,7 +57,7 @@ module _ (values : List Value) where
   rest_by z clause False r e h = (inl r, h e)
 
   -- without a true literal each is false or among the open ones
-  rest_in : (clause : List ℤ) → held values clause ≡ false → All (λ z. (reads values z ≡ False) ⊎ Has (open_in values clause) z) clause
+  rest_in : (clause : List ℤ) → held values clause ≡ false → AllByRecursion (λ z. (reads values z ≡ False) ⊎ Has (open_in values clause) z) clause
   rest_in [] e = tt
   rest_in (z ∷ clause) e = rest_by z clause (reads values z) refl e (rest_in clause)
 
@@ -72,7 +72,7 @@ module _ (values : List Value) where
   held_in [] e = let z : ◌≡◌ {A = ℕ} 0 1 = cc in absurd (omega arith)
   held_in (z ∷ clause) e = held_by z clause (reads values z) refl e (held_in clause)
 
-  means_open : (clause opens : List ℤ) → All (λ z. Has clause z × (reads values z ≡ Open)) opens → All (λ z. (reads values z ≡ False) ⊎ Has opens z) clause → Means values clause (by_open opens)
+  means_open : (clause opens : List ℤ) → AllByRecursion (λ z. Has clause z × (reads values z ≡ Open)) opens → AllByRecursion (λ z. (reads values z ≡ False) ⊎ Has opens z) clause → Means values clause (by_open opens)
   means_open clause [] o r = All-weaker (λ z. (reads values z ≡ False) ⊎ Has [] z) (λ z. reads values z ≡ False) (λ z k. ⊎_elim (λ e. e) (λ h. absurd (has_none z h)) k) clause r
   means_open clause (z ∷ zs) o r =
       cond_both (every (same z) zs) (Forcing z) Undecided (Means values clause)

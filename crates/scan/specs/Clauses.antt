@@ -1,6 +1,6 @@
 -- What a clause is under a partial valuation: satisfied, all false, forcing or undecided.
 use Rattle.std.specs.Prelude.{◌≡◌, ℕ, ◌+◌, Bool, true, false, cond, ◌||◌, ◌⊎◌, List, [], ◌∷◌, length, ℤ, pos, negsuc, Some, None, filter, Option, ◌==◌}
-use Rattle.std.specs.List.{ContainsAt as Has, AllByRecursion as All}
+use Rattle.std.specs.List.{ContainsAt as Has, AllByRecursion}
 use Rattle.sat.specs.Formula.{every}
 use Rattle.scan.specs.Values.{by_value, reads}
 use Rattle.scan.specs.declared.value.Value.{Value}
@@ -44,8 +44,8 @@ judged values clause = cond (held values clause) Satisfied (by_open (open_in val
 abbrev pub Means : List Value → List ℤ → Standing → Type 0
 Means values clause Undecided = (z : ℤ) × Has clause z × (reads values z ≡ Open)
 Means values clause Satisfied = (z : ℤ) × Has clause z × (reads values z ≡ True)
-Means values clause AllFalse = All (λ z. reads values z ≡ False) clause
-Means values clause (Forcing last) = Has clause last × (reads values last ≡ Open) × All (λ z. (z ≡ last) ⊎ (reads values z ≡ False)) clause
+Means values clause AllFalse = AllByRecursion (λ z. reads values z ≡ False) clause
+Means values clause (Forcing last) = Has clause last × (reads values last ≡ Open) × AllByRecursion (λ z. (z ≡ last) ⊎ (reads values z ≡ False)) clause
 
 -- a clause with one open literal more
 abbrev pub with_open : Standing → ℤ → Standing

@@ -1,6 +1,6 @@
 -- What is found around a formula: the first clause that tells something, being all false or forcing.
 use Rattle.std.specs.Prelude.{◌≡◌, ℕ, zero, suc, ◌+◌, cond, ◌&&◌, List, [], ◌∷◌, length, take, drop, ℤ, pos, nat_lt, slice_index_or}
-use Rattle.std.specs.List.{ContainsAt as Has, AllByRecursion as All}
+use Rattle.std.specs.List.{ContainsAt as Has, AllByRecursion}
 use Rattle.sat.specs.Formula.{is_zero, clauses_of}
 use Rattle.scan.specs.Clauses.{judged}
 use Rattle.scan.specs.declared.value.Value.{Value}
@@ -46,6 +46,6 @@ round values formula proposed = round_from values formula (start_of formula prop
 
 -- what was found is so: no clause tells anything, or one of them is all false, or one of them forces the literal
 abbrev pub Finds : List Value → List (List ℤ) → Found → Type 0
-Finds values clauses Nothing = All (λ clause. tells (judged values clause) ≡ Nothing) clauses
+Finds values clauses Nothing = AllByRecursion (λ clause. tells (judged values clause) ≡ Nothing) clauses
 Finds values clauses Conflict = (clause : List ℤ) × Has clauses clause × (judged values clause ≡ AllFalse)
 Finds values clauses (Forced z) = (clause : List ℤ) × Has clauses clause × (judged values clause ≡ Forcing z)

@@ -1,6 +1,6 @@
 -- How a search begins, and what it has found where it ended.
 use Rattle.std.proofs.Common.{◌≡◌, ℕ, ◌≤◌, true, false, ◌&&◌, List, replicate, ℤ, pos, sym, ap, ◌∙◌, subst, arith, Bor}
-use Rattle.std.specs.List.{AllByRecursion as All}
+use Rattle.std.specs.List.{AllByRecursion}
 use Rattle.std.proofs.lemmas.List.{length-replicate}
 use Rattle.std.proofs.ByRecursion.{All-weaker}
 use Rattle.std.proofs.lemmas.Bool.{and_parts, both_ways}
@@ -30,7 +30,7 @@ module _ (v : ℕ) (formula assumed : List ℤ) (well : well_formed v formula as
   inside_is : within v formula ≡ true
   inside_is = behind.0
 
-  named_is : All (Names v) assumed
+  named_is : AllByRecursion (Names v) assumed
   named_is = let p : _ = and_parts (within v assumed) (literals assumed) behind.1 in literals_name v assumed p.0 p.1
 
   module _ (blank : Values) (all : blank.slots ≡ replicate 1025 Open) where
@@ -42,18 +42,18 @@ module _ (v : ℕ) (formula assumed : List ℤ) (well : well_formed v formula as
     opposed_none o m models = both_ways (unopposed blank assumed) o (agrees_unopposed blank assumed m models.kept (agrees_blank m))
 
     module _ (bounded : v ≤ 1024) (u : unopposed blank assumed ≡ true) where
-      small : All (Names 1024) assumed
+      small : AllByRecursion (Names 1024) assumed
       small = All-weaker (Names v) (Names 1024) (λ z h. (h.0, omega (arith, h.1))) assumed named_is
 
       started_going : (f a : Bor (List ℤ)) → f.now ≡ formula → a.now ≡ assumed → Going (started v f a (assumed_on blank assumed))
       started_going f a p q = record {
         bounded = bounded;
         inside = ap (within v) p ∙ inside_is;
-        named = subst (All (Names v)) (sym q) named_is;
+        named = subst (AllByRecursion (Names v)) (sym q) named_is;
         room = length-replicate 1025 (Implied (pos 0));
         sound = (
-          subst (All (λ z. reads (assumed_on blank assumed).slots z ≡ True)) (sym q) (unopposed-true blank assumed small u),
-          λ m models. assumed_agrees blank assumed m (subst (All (λ z. is_true m z ≡ true)) q models.kept) (agrees_blank m),
+          subst (AllByRecursion (λ z. reads (assumed_on blank assumed).slots z ≡ True)) (sym q) (unopposed-true blank assumed small u),
+          λ m models. assumed_agrees blank assumed m (subst (AllByRecursion (λ z. is_true m z ≡ true)) q models.kept) (agrees_blank m),
         );
       }
 

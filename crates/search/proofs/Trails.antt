@@ -1,6 +1,6 @@
 -- The trail of a search: an entry more, how long it can get, and the assumed literals under it.
 use Rattle.std.proofs.Common.{◌≡◌, ℕ, zero, suc, ◌+◌, ◌<◌, ◌≤◌, true, false, List, [], ◌∷◌, length, get_or, set, ℤ, pos, negsuc, neg_ℤ, sym, refl, ap, ◌∙◌, subst, ⊎_elim, arith}
-use Rattle.std.specs.List.{AllByRecursion as All}
+use Rattle.std.specs.List.{AllByRecursion}
 use Rattle.std.proofs.lemmas.List.{length-set, get_or-set_same, get_or-set_other, set-set, set-get_or, get_or_past}
 use Rattle.std.proofs.ByRecursion.{All-weaker, All-get_or}
 use Rattle.std.proofs.lemmas.Bool.{eq-eqb, cases_eq, cases_lt}
@@ -54,11 +54,11 @@ slot-truth values (negsuc k) n t = turned (get_or values (suc k) Open) t
     turned True e = cc
     turned False e = refl
 
-bit_at : (m : List ℕ) (n : ℕ) → All (λ byte. byte ≤ 1) m → get_or m n 0 ≤ 1
+bit_at : (m : List ℕ) (n : ℕ) → AllByRecursion (λ byte. byte ≤ 1) m → get_or m n 0 ≤ 1
 bit_at m n h = ⊎_elim (λ l. All-get_or (λ byte. byte ≤ 1) m n 0 l h) (λ g. omega (arith, get_or_past m n 0 g)) (cases_lt n (length m))
 
 -- the opposite of a literal that is not true
-turned_true : (m : List ℕ) (z : ℤ) → All (λ byte. byte ≤ 1) m → is_zero z ≡ false → (is_true m z ≡ true → ⊥) → is_true m (neg_ℤ z) ≡ true
+turned_true : (m : List ℕ) (z : ℤ) → AllByRecursion (λ byte. byte ≤ 1) m → is_zero z ≡ false → (is_true m z ≡ true → ⊥) → is_true m (neg_ℤ z) ≡ true
 turned_true m (pos zero) h n c = let e : ◌≡◌ {A = ℕ} 0 1 = cc in absurd (omega arith)
 turned_true m (pos (suc k)) h n c =
     ⊎_elim (λ e. absurd (c (eq-eqb (get_or m k 0) 1 e))) (λ ne. eq-eqb (get_or m k 0) 0 (omega (arith, bit_at m k h))) (cases_eq (get_or m k 0) 1)
@@ -94,7 +94,7 @@ module _ (v : ℕ) (formula assumed : List ℤ) (bounded : v ≤ 1024) where
       )
 
   -- the assumed literals are true
-  pub sound_kept : (values : List Value) (trail : List Entry) → Sound v formula assumed values trail → All (λ z. reads values z ≡ True) assumed
+  pub sound_kept : (values : List Value) (trail : List Entry) → Sound v formula assumed values trail → AllByRecursion (λ z. reads values z ≡ True) assumed
   sound_kept values [] s = s.0
   sound_kept values (e ∷ trail) s =
       let k : ℕ = variable (literal_of e) in

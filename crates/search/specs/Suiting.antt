@@ -1,7 +1,7 @@
 -- What holds of a search in each mood, and how much of it is left.
 -- A trail is read newest entry first.
 use Rattle.std.specs.Prelude.{◌≡◌, ℕ, zero, suc, ◌+◌, ◌*◌, ◌≤◌, true, false, List, [], ◌∷◌, length, ℤ, pos, slice_index_or, slice_set}
-use Rattle.std.specs.List.{AllByRecursion as All}
+use Rattle.std.specs.List.{AllByRecursion}
 use Rattle.sat.specs.Formula.{variable, is_zero, is_true, clauses_of, within}
 use Rattle.sat.specs.Question.{Models}
 use Rattle.sat.specs.declared.question.Verdict.TheVariants.{Yes, No}
@@ -34,7 +34,7 @@ module _ (v : ℕ) (formula assumed : List ℤ) where
 
   -- before the first entry the assumed literals are true, and every model agrees
   abbrev pub Based : List Value → Type 0
-  Based values = All (λ z. reads values z ≡ True) assumed × ((m : List ℕ) → Models v formula assumed m → Agrees values m)
+  Based values = AllByRecursion (λ z. reads values z ≡ True) assumed × ((m : List ℕ) → Models v formula assumed m → Agrees values m)
 
   -- each entry is a literal of a variable 1 to v and true, and says what is so of the values with its variable opened again
   abbrev pub Sound : List Value → List Entry → Type 0
@@ -49,7 +49,7 @@ module _ (v : ℕ) (formula assumed : List ℤ) where
 pub record Going (s : State) : Type 0 where
   pub bounded : s.variables ≤ 1024
   pub inside : within s.variables s.formula.now ≡ true
-  pub named : All (λ z. (is_zero z ≡ false) × (variable z ≤ s.variables)) s.assumed.now
+  pub named : AllByRecursion (λ z. (is_zero z ≡ false) × (variable z ≤ s.variables)) s.assumed.now
   pub room : length s.trail ≡ 1025
   pub sound : Sound s.variables s.formula.now s.assumed.now s.values.slots (newest_first s.depth s.trail)
 

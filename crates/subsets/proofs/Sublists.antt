@@ -4,7 +4,7 @@ use Rattle.std.proofs.Common.{◌≡◌, ℕ, zero, suc, List, [], ◌∷◌, ma
 use mathlib.Core.List.{map-map}
 use Rattle.std.proofs.ByRecursion.{All-append, All-map, All-weaker}
 use Rattle.std.proofs.lemmas.List.{length-map, map-append}
-use Rattle.std.specs.List.{AllByRecursion as All}
+use Rattle.std.specs.List.{AllByRecursion}
 use Rattle.subsets.specs.Choose.{choose, subset_count}
 
 -- there are as many as Pascal's rule gives
@@ -15,7 +15,7 @@ length-choose (suc s) [] = refl
 length-choose (suc s) (x ∷ xs) = simp (length-append, length-map, length-choose s xs, length-choose (suc s) xs)
 
 -- each has s elements
-pub choose_lengths : {X : Type 0} (s : ℕ) (xs : List X) → All (λ ys. length ys ≡ s) (choose s xs)
+pub choose_lengths : {X : Type 0} (s : ℕ) (xs : List X) → AllByRecursion (λ ys. length ys ≡ s) (choose s xs)
 unfolding choose
 choose_lengths zero xs = (refl, tt)
 choose_lengths (suc s) [] = tt

@@ -1,6 +1,6 @@
 -- Evaluating tells whether a valuation answers a question.
 use Rattle.std.proofs.Common.{◌≡◌, ℕ, ◌-◌, ◌<◌, ◌≤◌, Bool, false, List, length, get_or, take, ℤ, Decides, sym, ◌∙◌, subst, arith}
-use Rattle.std.specs.List.{AllByRecursion as All}
+use Rattle.std.specs.List.{AllByRecursion}
 use Rattle.std.proofs.ByRecursion.{All-get_or}
 use Rattle.std.proofs.lemmas.List.{length-take, length-take-le}
 use Rattle.std.proofs.lemmas.Bool.{both_ways, false≢true}
@@ -12,7 +12,7 @@ use Rattle.odometer.proofs.Clauses.{models_from_answers, answers_from_models}
 pub decides_false : (P : Type 0) → (P → ⊥) → Decides false P
 decides_false P h = ((λ e. absurd (false≢true e)), (λ p. absurd (h p)))
 
-pub byte_above : (bytes : List ℕ) (i : ℕ) → i < length bytes → 1 < get_or bytes i 0 → All (λ byte. byte ≤ 1) bytes → ⊥
+pub byte_above : (bytes : List ℕ) (i : ℕ) → i < length bytes → 1 < get_or bytes i 0 → AllByRecursion (λ byte. byte ≤ 1) bytes → ⊥
 byte_above bytes i h k bits = let b : get_or bytes i 0 ≤ 1 = All-get_or (λ byte. byte ≤ 1) bytes i 0 h bits in omega arith
 
 module _ (v : ℕ) (formula assumed : List ℤ) where
@@ -24,14 +24,14 @@ module _ (v : ℕ) (formula assumed : List ℤ) where
     front_length : length (take v bytes) ≡ v
     front_length = length-take-le v bytes room
 
-    pub bits_decide : Decides r (All (λ byte. byte ≤ 1) (take (v - 0) bytes)) → r ≡ false → Decides r (Models v formula assumed (take v bytes))
+    pub bits_decide : Decides r (AllByRecursion (λ byte. byte ≤ 1) (take (v - 0) bytes)) → r ≡ false → Decides r (Models v formula assumed (take v bytes))
     bits_decide d e =
         let same : v - 0 ≡ v = omega arith in
-        ((λ t. absurd (both_ways r e t)), (λ m. d.1 (subst (λ n. All (λ byte. byte ≤ 1) (take n bytes)) (sym same) m.bits)))
+        ((λ t. absurd (both_ways r e t)), (λ m. d.1 (subst (λ n. AllByRecursion (λ byte. byte ≤ 1) (take n bytes)) (sym same) m.bits)))
 
-    pub answers_decide : All (λ byte. byte ≤ 1) (take (v - 0) bytes) → r ≡ answers_all (take (v - 0) bytes) formula assumed → Decides r (Models v formula assumed (take v bytes))
+    pub answers_decide : AllByRecursion (λ byte. byte ≤ 1) (take (v - 0) bytes) → r ≡ answers_all (take (v - 0) bytes) formula assumed → Decides r (Models v formula assumed (take v bytes))
     answers_decide bits e =
         let same : v - 0 ≡ v = omega arith in
         let f : r ≡ answers_all (take v bytes) formula assumed = rw same at e in
-        let b : All (λ byte. byte ≤ 1) (take v bytes) = subst (λ n. All (λ byte. byte ≤ 1) (take n bytes)) same bits in
+        let b : AllByRecursion (λ byte. byte ≤ 1) (take v bytes) = subst (λ n. AllByRecursion (λ byte. byte ≤ 1) (take n bytes)) same bits in
         ((λ t. models_from_answers v formula assumed (take v bytes) front_length b (sym f ∙ t)), (λ m. f ∙ answers_from_models v formula assumed (take v bytes) m))

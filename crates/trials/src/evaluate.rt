@@ -1,12 +1,12 @@
 // Evaluating a question under the valuation with which a buffer begins.
 ghost use Rattle.std.specs.Prelude.{◌≤◌, take, Decides};
-ghost use Rattle.std.specs.List.{AllByRecursion as All};
+ghost use Rattle.std.specs.List.{AllByRecursion};
 ghost use Rattle.sat.specs.Question.{Models};
 
 use odometer::answers;
 
 fn all_bits(values: &[u8]) -> bool
-    ensures { Decides result (All (λ byte. byte ≤ 1) values.now) }
+    ensures { Decides result (AllByRecursion (λ byte. byte ≤ 1) values.now) }
 {
     for byte in values {
         if *byte > 1 {

@@ -1,5 +1,5 @@
 use Rattle.std.proofs.Common.{◌≤◌, refl, subst}
-use Rattle.std.specs.List.{AllByRecursion as All}
+use Rattle.std.specs.List.{AllByRecursion}
 use Rattle.std.proofs.ByRecursion.{All-more}
 use Rattle.std.proofs.lemmas.List.{take_all}
 use Rattle.trials.proofs.Evaluations.{decides_false, byte_above}
@@ -10,7 +10,7 @@ loop-byte-preserved c = All-more (λ byte. byte ≤ 1) c.args.values.now c.loop-
 
 pub returns : goal.returns
 returns c = (
-  (λ _. subst (All (λ byte. byte ≤ 1)) (take_all c.loop-byte.byte-index c.args.values.now c.loop-byte-test.false) c.loop-byte.invariant),
+  (λ _. subst (AllByRecursion (λ byte. byte ≤ 1)) (take_all c.loop-byte.byte-index c.args.values.now c.loop-byte-test.false) c.loop-byte.invariant),
   (λ _. refl),
 )
 
