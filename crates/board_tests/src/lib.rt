@@ -1,6 +1,6 @@
+// Examples of edits on boards with their expected answers.
 #![tactic(auto)]
 
-// Examples of edits on boards with their expected answers.
 #[cfg(test)]
 mod tests {
     use board::{Edit, Measure, OpenBoard, Refusal};

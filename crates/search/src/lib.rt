@@ -5,7 +5,6 @@ mod mood;
 pub mod solver;
 mod state;
 
-use sat::Solver;
 pub use solver::Search;
 
 #[cfg(test)]
