@@ -1,7 +1,8 @@
 -- What a formula says.
 -- A formula is a list of numbers in which every clause ends with 0. Any other number is a literal: n stands for variable n true, -n for it false.
 -- A valuation is a list of bytes, variable n at place n - 1, 1 for true and 0 for false.
-use Rattle.std.specs.Prelude.{ℕ, zero, suc, ◌-◌, Bool, true, false, cond, not, ◌&&◌, ◌||◌, List, [], ◌∷◌, ◌++◌, length, ℤ, pos, negsuc, ◌==◌, nat_le, slice_index, slice_index_or, unsigned_abs}
+use Rattle.std.specs.Prelude.{ℕ, zero, suc, ◌-◌, Bool, true, false, cond, not, ◌||◌, List, [], ◌∷◌, ◌++◌, length, ℤ, pos, negsuc, ◌==◌, nat_le, slice_index, slice_index_or, unsigned_abs}
+use Rattle.std.specs.List.{list_all}
 
 -- the variable that a literal names: n for n and for -n
 abbrev pub variable : ℤ → ℕ
@@ -41,8 +42,7 @@ encode (clause ∷ clauses) = clause ++ (pos 0 ∷ encode clauses)
 
 -- the test passes at every number of the list
 abbrev pub every : (ℤ → Bool) → List ℤ → Bool
-every test [] = true
-every test (z ∷ zs) = test z && every test zs
+every test zs = list_all test zs
 
 -- no literal names a variable above v
 abbrev pub within : ℕ → List ℤ → Bool

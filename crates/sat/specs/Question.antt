@@ -3,6 +3,7 @@
 use Rattle.std.specs.Prelude.{◌≡◌, ℕ, ◌+◌, ◌%◌, ◌^◌, ◌≤◌, Bool, true, cond, not, ◌&&◌, List, length, take, drop, replicate, ℤ, Some, None, Ok, Err, Option, Result, nat_lt}
 use Rattle.std.specs.List.{AllByRecursion}
 use Rattle.sat.specs.Formula.{is_true, satisfied, clauses_of, within, closed, literals}
+use Rattle.sat.specs.declared.question.Question.{Question}
 use Rattle.sat.specs.declared.question.Refusal.{Refusal}
 use Rattle.sat.specs.declared.question.Refusal.TheVariants.{TooManyVariables, IllFormed, ShortValuation}
 use Rattle.sat.specs.declared.question.Verdict.{Verdict}
@@ -55,3 +56,7 @@ pub record Answered {S : Type 0} (largest tally : S → ℕ) (v : ℕ) (formula 
 pub record Solved {S : Type 0} (largest tally : S → ℕ) (v : ℕ) (formula assumed : List ℤ) (before after : S) (was is : List ℕ) (r : Result Verdict Refusal) : Type 0 where
   pub refused : (e : Refusal) → refusal (largest before) v formula assumed (length was) ≡ Some e → Refused e before after was is r
   pub answered : refusal (largest before) v formula assumed (length was) ≡ None → Answered largest tally v formula assumed before after was is r
+
+-- the same of a question that is put to a solver
+abbrev pub Solves : {S : Type 0} (largest tally : S → ℕ) (question : Question) (before after : S) (was is : List ℕ) → Result Verdict Refusal → Type 0
+Solves largest tally question before after was is r = Solved largest tally question.variables question.formula.now question.assumed.now before after was is r

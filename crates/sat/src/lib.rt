@@ -4,5 +4,5 @@
 pub mod question;
 pub mod solver;
 
-pub use question::{Refusal, Verdict, judge};
+pub use question::{Question, Refusal, Verdict};
 pub use solver::Solver;

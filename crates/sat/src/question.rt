@@ -1,7 +1,21 @@
-// A question to a solver: its verdict, its refusals, and the judgement of a question that every solver shares.
-ghost use Rattle.std.specs.Prelude.{◌≡◌, true, length, ℤ};
+// A question to a solver, its verdict, and its refusals with the judgement of a question that every solver shares.
+ghost use Rattle.std.specs.Prelude.{◌≡◌, ◌++◌, Some, codes, decimal};
+ghost use Rattle.std.specs.Result.{result_err};
 ghost use Rattle.sat.specs.Formula.{within, literals, closed};
 ghost use Rattle.sat.specs.Question.{refusal, well_formed, number};
+
+use std::error::Error;
+use std::fmt;
+
+#[derive(Clone, Copy)]
+pub struct Question<'q> {
+    // the most that a literal may name
+    pub variables: usize,
+    // clauses of literals, each with a 0 behind it
+    pub formula: &'q [i16],
+    // literals that the answer has to make true
+    pub assumed: &'q [i16],
+}
 
 #[derive(Clone, Copy, PartialEq, Eq, Debug)]
 pub enum Verdict {
@@ -33,67 +47,68 @@ impl Refusal {
     }
 }
 
+impl fmt::Display for Refusal {
+    ghost output = { λ refusal. Some (codes "refused " ++ decimal (number refusal)) };
+
+    fn fmt<W: fmt::Write>(&self, f: &mut fmt::Formatter<W>) -> fmt::Result {
+        let number = self.number();
+        write!(f, "refused {number}")
+    }
+}
+
+impl Error for Refusal {}
+
 // No literal names a variable above `variables`.
-fn within_variables(variables: usize, numbers: &[i16]) -> bool
+fn is_within(variables: usize, numbers: &[i16]) -> bool
     ensures { result ≡ within variables numbers.now }
 {
-    for z in numbers {
-        if z.unsigned_abs() as usize > variables {
-            return false;
-        }
-    }
-    true
+    numbers
+        .iter()
+        .all(|z| z.unsigned_abs() as usize <= variables)
 }
 
 // No number of the list is 0.
-fn all_literals(numbers: &[i16]) -> bool
+fn are_literals(numbers: &[i16]) -> bool
     ensures { result ≡ literals numbers.now }
 {
-    for z in numbers {
-        if *z == 0 {
-            return false;
-        }
-    }
-    true
+    numbers.iter().all(|z| *z != 0)
 }
 
 // The formula is empty or ends with 0.
 fn is_closed(formula: &[i16]) -> bool
     ensures { result ≡ closed formula.now }
 {
-    match formula.len() {
-        0 => true,
-        n => formula[n - 1] == 0,
+    match formula.last() {
+        None => true,
+        Some(last) => *last == 0,
     }
 }
 
-fn is_well_formed(variables: usize, formula: &[i16], assumed: &[i16]) -> bool
-    ensures { result ≡ well_formed variables formula.now assumed.now }
-{
-    is_closed(formula)
-        && within_variables(variables, formula)
-        && within_variables(variables, assumed)
-        && all_literals(assumed)
-}
+impl Question<'_> {
+    fn is_well_formed(self) -> bool
+        ensures { result ≡ well_formed self.entry.variables self.entry.formula.now self.entry.assumed.now }
+    {
+        is_closed(self.formula)
+            && is_within(self.variables, self.formula)
+            && is_within(self.variables, self.assumed)
+            && are_literals(self.assumed)
+    }
 
-// Why a solver of this largest declines a question, with so many bytes for the valuation.
-pub fn judge(
-    largest: usize,
-    variables: usize,
-    formula: &[i16],
-    assumed: &[i16],
-    room: usize,
-) -> Option<Refusal>
-    ensures { result ≡ refusal largest variables formula.now assumed.now room }
-{
-    if variables > largest {
-        return Some(Refusal::TooManyVariables);
+    // Declines the question where a solver of this largest does, with so many bytes for the valuation.
+    pub fn judge(self, largest: usize, room: usize) -> Result<(), Refusal>
+        ensures { result_err result ≡ refusal largest self.entry.variables self.entry.formula.now self.entry.assumed.now room }
+    {
+        if self.variables > largest {
+            return Err(Refusal::TooManyVariables);
+        }
+        if !self.is_well_formed() {
+            return Err(Refusal::IllFormed);
+        }
+        if room < self.variables {
+            return Err(Refusal::ShortValuation {
+                needed: self.variables,
+            });
+        }
+        Ok(())
     }
-    if !is_well_formed(variables, formula, assumed) {
-        return Some(Refusal::IllFormed);
-    }
-    if room < variables {
-        return Some(Refusal::ShortValuation { needed: variables });
-    }
-    None
 }

@@ -1,8 +1,8 @@
 // The interface of a solver. Its two ghost numbers are all that it means to a caller.
 ghost use Rattle.std.specs.Prelude.{◌≡◌, ℕ};
-ghost use Rattle.sat.specs.Question.{Solved};
+ghost use Rattle.sat.specs.Question.{Solves};
 
-use crate::question::{Refusal, Verdict};
+use crate::question::{Question, Refusal, Verdict};
 
 pub trait Solver {
     // the most variables that it takes, fixed for its life
@@ -19,12 +19,6 @@ pub trait Solver {
 
     // Whether some valuation makes a literal of every clause true and keeps every assumed literal.
     // After yes `valuation` begins with one, after no with zeros.
-    fn solve(
-        &mut self,
-        variables: usize,
-        formula: &[i16],
-        assumed: &[i16],
-        valuation: &mut [u8],
-    ) -> Result<Verdict, Refusal>
-        ensures { Solved largest tally variables formula.now assumed.now self.old self.new valuation.old valuation.new result };
+    fn solve(&mut self, question: Question<'_>, valuation: &mut [u8]) -> Result<Verdict, Refusal>
+        ensures { Solves largest tally question.entry self.old self.new valuation.old valuation.new result };
 }
