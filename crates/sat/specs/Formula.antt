@@ -1,7 +1,7 @@
 -- What a formula says.
 -- A formula is a list of numbers in which every clause ends with 0. Any other number is a literal: n stands for variable n true, -n for it false.
 -- A valuation is a list of bytes, variable n at place n - 1, 1 for true and 0 for false.
-use Rattle.std.specs.Prelude.{ℕ, zero, suc, ◌-◌, Bool, true, false, cond, not, ◌||◌, List, [], ◌∷◌, ◌++◌, length, ℤ, pos, negsuc, ◌==◌, nat_le, slice_index, slice_index_or, unsigned_abs}
+use Rattle.std.specs.Prelude.{ℕ, zero, suc, ◌-◌, Bool, true, false, if◌then◌else◌, not, ◌||◌, List, [], ◌∷◌, ◌++◌, length, ℤ, pos, negsuc, ◌==◌, nat_le, slice_index, slice_index_or, unsigned_abs}
 use Rattle.std.specs.List.{list_all}
 
 -- the variable that a literal names: n for n and for -n
@@ -33,7 +33,7 @@ into_first z (clause ∷ clauses) = (z ∷ clause) ∷ clauses
 -- the clauses of a formula, each without its 0; numbers behind the last 0 belong to no clause
 abbrev pub clauses_of : List ℤ → List (List ℤ)
 clauses_of [] = []
-clauses_of (z ∷ numbers) = cond (is_zero z) ([] ∷ clauses_of numbers) (into_first z (clauses_of numbers))
+clauses_of (z ∷ numbers) = if is_zero z then [] ∷ clauses_of numbers else into_first z (clauses_of numbers)
 
 -- the formula of a list of clauses
 abbrev pub encode : List (List ℤ) → List ℤ

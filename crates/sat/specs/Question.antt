@@ -1,6 +1,6 @@
 -- What a solver means: which valuations answer a question, which questions are refused, and what `solve` leaves.
 -- A question is a number of variables v, a formula and a list of assumed literals.
-use Rattle.std.specs.Prelude.{◌≡◌, ℕ, ◌+◌, ◌%◌, ◌^◌, ◌≤◌, Bool, true, cond, not, ◌&&◌, List, length, take, drop, replicate, ℤ, Some, None, Ok, Err, Option, Result, nat_lt}
+use Rattle.std.specs.Prelude.{◌≡◌, ℕ, ◌+◌, ◌%◌, ◌^◌, ◌≤◌, Bool, true, if◌then◌else◌, not, ◌&&◌, List, length, take, drop, replicate, ℤ, Some, None, Ok, Err, Option, Result, codes, nat_lt}
 use Rattle.std.specs.List.{AllByRecursion}
 use Rattle.sat.specs.Formula.{is_true, satisfied, clauses_of, within, closed, literals}
 use Rattle.sat.specs.declared.question.Question.{Question}
@@ -23,15 +23,21 @@ well_formed v formula assumed = closed formula && (within v formula && (within v
 -- why a solver declines a question, with room for so many bytes of a valuation: the first of the three that applies
 abbrev pub refusal : (largest v : ℕ) → List ℤ → List ℤ → (room : ℕ) → Option Refusal
 refusal largest v formula assumed room =
-    cond (nat_lt largest v) (Some TooManyVariables)
-    (cond (not (well_formed v formula assumed)) (Some IllFormed)
-    (cond (nat_lt room v) (Some (ShortValuation v)) None))
+    if nat_lt largest v then Some TooManyVariables
+    else (if not (well_formed v formula assumed) then Some IllFormed
+    else (if nat_lt room v then Some (ShortValuation v)
+    else None))
 
 -- the number of each refusal
 abbrev pub number : Refusal → ℕ
 number TooManyVariables = 9
 number IllFormed = 10
 number (ShortValuation needed) = 11
+
+-- a verdict in print
+abbrev pub word : Verdict → List ℕ
+word Yes = codes "yes"
+word No = codes "no"
 
 -- the answer is true, and the first v bytes go with it: a valuation that answers the question, or zeros where none does
 abbrev pub Truth : (v : ℕ) (formula assumed : List ℤ) (front : List ℕ) → Result Verdict Refusal → Type 0

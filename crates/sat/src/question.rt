@@ -2,7 +2,7 @@
 ghost use Rattle.std.specs.Prelude.{◌≡◌, ◌++◌, Some, codes, decimal};
 ghost use Rattle.std.specs.Result.{result_err};
 ghost use Rattle.sat.specs.Formula.{within, literals, closed};
-ghost use Rattle.sat.specs.Question.{refusal, well_formed, number};
+ghost use Rattle.sat.specs.Question.{refusal, well_formed, number, word};
 
 use std::error::Error;
 use std::fmt;
@@ -23,6 +23,17 @@ pub enum Verdict {
     No,
     // the valuation that is shown answers it
     Yes,
+}
+
+impl fmt::Display for Verdict {
+    ghost output = { λ verdict. Some (word verdict) };
+
+    fn fmt<W: fmt::Write>(&self, f: &mut fmt::Formatter<W>) -> fmt::Result {
+        match self {
+            Verdict::No => write!(f, "no"),
+            Verdict::Yes => write!(f, "yes"),
+        }
+    }
 }
 
 #[derive(Clone, Copy, PartialEq, Eq, Debug)]
@@ -78,10 +89,7 @@ fn are_literals(numbers: &[i16]) -> bool
 fn is_closed(formula: &[i16]) -> bool
     ensures { result ≡ closed formula.now }
 {
-    match formula.last() {
-        None => true,
-        Some(last) => *last == 0,
-    }
+    formula.last().is_none_or(|last| *last == 0)
 }
 
 impl Question<'_> {
