@@ -1,30 +1,15 @@
 -- The sums of a board's measure: the sets of m + 1 nets, chip by chip, and bounds that rule out overflow.
-use Rattle.std.proofs.Common.{◌≡◌, ℕ, zero, suc, ◌+◌, ◌-◌, ◌*◌, ◌≤◌, true, ◌&&◌, leb, List, [], ◌∷◌, ◌++◌, sum_by, Option, refl, ap, ◌∙◌, arith}
+use Rattle.std.proofs.Common.{◌≡◌, ℕ, ◌+◌, ◌-◌, ◌*◌, ◌≤◌, true, ◌&&◌, leb, List, All, Option, arith, rules}
 use Rattle.std.proofs.lemmas.Nat.{mul-le}
-use Rattle.std.proofs.lemmas.List.Sums.{sum_by_push}
+use Rattle.std.proofs.lemmas.List.FromFn.{length-range_with_len}
+use Rattle.std.proofs.lemmas.List.Sums.{sum_by-le}
 use Rattle.std.proofs.lemmas.Bool.{and_parts, leb-true}
 use Rattle.std.specs.List.{range_with_len}
 use Rattle.subsets.specs.Choose.{subset_count}
+use Rattle.subsets.proofs.Count.{count_at_most}
 use Rattle.board.specs.Measure.{conflicts_in}
 use Rattle.board.specs.Rows.{in_limits, load}
 use Rattle.board.specs.declared.net.Net.{Net}
-
-counting_push : (n a : ℕ) → range_with_len a (suc n) ≡ range_with_len a n ++ (a + n) ∷ []
-counting_push zero a = ap (λ x. x ∷ []) (omega arith)
-counting_push (suc n) a = ap (λ xs. a ∷ xs) (counting_push n (a + 1) ∙ ap (λ x. range_with_len (a + 1) n ++ x ∷ []) (omega arith))
-
--- no chip, and one chip more
-pub conflicts_none : (size : ℕ) (rows : List (Option Net)) → conflicts_in size rows 0 ≡ 0
-unfolding conflicts_in
-conflicts_none size rows = refl
-
-pub conflicts_more : (size : ℕ) (rows : List (Option Net)) (n : ℕ) → conflicts_in size rows (n + 1) ≡ conflicts_in size rows n + subset_count (load (n + 1) rows) size
-unfolding conflicts_in
-conflicts_more size rows n =
-    let f : ℕ → ℕ = λ chip. subset_count (load chip rows) size in
-    let more : n + 1 ≡ suc n = omega arith in
-    let last : 1 + n ≡ n + 1 = omega arith in
-    ap (λ k. sum_by f (range_with_len 1 k)) more ∙ ap (sum_by f) (counting_push n 1) ∙ sum_by_push f (range_with_len 1 n) (1 + n) ∙ ap (λ k. sum_by f (range_with_len 1 n) + f k) last
 
 -- the sizes' limits, as numbers
 pub sizes : (chips fpics pins : ℕ) → in_limits chips fpics pins ≡ true → (chips ≤ 32) × (1 ≤ fpics) × (fpics ≤ 8) × (pins ≤ 4)
@@ -59,3 +44,19 @@ small nets chips fpics pins sets n e t =
       clauses = omega (arith, mul-le fpics sets 8 6444032 s.2 (omega arith));
       literals = omega (arith, mul-le (fpics * (pins + 1)) sets 40 6444032 (omega (arith, mul-le fpics (pins + 1) 8 5 s.2 (omega (arith, s.3)))) (omega arith));
     }
+
+-- the sets of all chips, where each chip has few
+pub conflicts_in_bound : (size : ℕ) (rows : List (Option Net)) (chips n : ℕ) → ((chip : ℕ) → subset_count (load chip rows) size ≤ n) → conflicts_in size rows chips ≤ chips * n
+unfolding conflicts_in
+conflicts_in_bound size rows chips n few =
+    let each : All (λ chip. subset_count (load chip rows) size ≤ n) (range_with_len 1 chips) = search rules in
+    let all = sum_by-le (λ chip. subset_count (load chip rows) size) n (range_with_len 1 chips) each in
+    rw length-range_with_len at all
+
+-- and those of a board
+pub conflicts_at_most : (chips fpics pins : ℕ) (rows : List (Option Net)) → in_limits chips fpics pins ≡ true → ((chip : ℕ) → load chip rows ≤ fpics * pins) →
+    conflicts_in (pins + 1) rows chips ≤ 32 * 201376
+conflicts_at_most chips fpics pins rows e loads =
+    let s = sizes chips fpics pins e in
+    let few : (chip : ℕ) → subset_count (load chip rows) (pins + 1) ≤ 201376 = λ chip. count_at_most (load chip rows) (pins + 1) (few_nets chips fpics pins rows chip e (loads chip)) (omega (arith, s.3)) in
+    omega (arith, conflicts_in_bound (pins + 1) rows chips 201376 few, s.0)

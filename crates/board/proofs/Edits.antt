@@ -1,14 +1,15 @@
 -- A list of edits, one after the other.
 use Rattle.std.proofs.Common.{◌≡◌, ℕ, ◌+◌, ◌<◌, ◌≤◌, Bool, true, false, cond, List, length, get_or, drop, is_some, is_err, Some, None, Option, sym, refl, ap, ◌∙◌, arith}
-use Rattle.std.proofs.lemmas.List.{at_drop_more, at_drop_all}
+use Rattle.std.proofs.lemmas.List.{at_drop_more}
 use Rattle.board.specs.Held.{Held, after, after_all, answer, judged, refused_in}
 use Rattle.board.specs.declared.edit.Edit.{Edit}
 use Rattle.board.specs.declared.refusal.Refusal.{Refusal}
 
 -- i edits are done: what is left of the list, from what is held now, gives what the whole list gives from the start
-abbrev pub Going : Held → List Edit → Held → ℕ → ℕ → Type 0
-Going start edits held refused i =
-    (refused + refused_in held (drop i edits) ≡ refused_in start edits) × (after_all held (drop i edits) ≡ after_all start edits) × (refused ≤ i)
+pub record Going (start : Held) (edits : List Edit) (held : Held) (refused i : ℕ) : Type 0 where
+  pub counts : refused + refused_in held (drop i edits) ≡ refused_in start edits
+  pub leaves : after_all held (drop i edits) ≡ after_all start edits
+  pub few : refused ≤ i
 
 err_is : (o : Option Refusal) → is_err (answer o) ≡ is_some o
 err_is None = refl
@@ -27,11 +28,4 @@ going_more start edits held held' refused refused' i d h e n inv =
     let s : refused_in held' (drop (i + 1) edits) ≡ refused_in (after held (get_or edits i d)) (drop (i + 1) edits) = ap (λ x. refused_in x (drop (i + 1) edits)) e in
     let a : after_all held (drop i edits) ≡ after_all (after held (get_or edits i d)) (drop (i + 1) edits) = at_drop_more (after_all held) edits i d h in
     let one = at_most_one (is_some (judged held (get_or edits i d))) in
-    (omega (arith, inv.0), ap (λ x. after_all x (drop (i + 1) edits)) e ∙ sym a ∙ inv.1, omega (arith, inv.2))
-
-pub going_all : (start : Held) (edits : List Edit) (held : Held) (refused i : ℕ) → length edits ≤ i → Going start edits held refused i →
-    (refused ≡ refused_in start edits) × (held ≡ after_all start edits)
-going_all start edits held refused i h inv =
-    let r : refused_in held (drop i edits) ≡ 0 = at_drop_all (refused_in held) edits i h in
-    let a : after_all held (drop i edits) ≡ held = at_drop_all (after_all held) edits i h in
-    (omega (arith, inv.0), sym a ∙ inv.1)
+    record { counts = omega (arith, inv.counts); leaves = ap (λ x. after_all x (drop (i + 1) edits)) e ∙ sym a ∙ inv.leaves; few = omega (arith, inv.few) }

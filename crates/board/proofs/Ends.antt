@@ -23,6 +23,16 @@ no_end_above p ends chip l h =
     let few : ends < 2 ^ (chip - 1) = (let w : 2 ^ p ≤ 2 ^ (chip - 1) = pow_mono (omega arith) in omega arith) in
     end_at ends chip (omega arith) ∙ ap (λ n. eqb (n % 2) 1) (div-eq_of_lt few)
 
+-- nor a number that is no chip from 1 to p
+pub no_end_outside : (p ends chip : ℕ) → ends < 2 ^ p → (1 ≤ chip → chip ≤ p → ⊥) → has_end ends chip ≡ false
+no_end_outside p ends chip l out = ⊎_elim (λ h. ap (has_end ends) (zero_is h) ∙ no_chip_zero ends) (λ h. no_end_above p ends chip l (above h)) (cases_lt chip 1)
+  where
+    zero_is : chip < 1 → chip ≡ 0
+    zero_is h = omega arith
+
+    above : 1 ≤ chip → p < chip
+    above h = ⊎_elim (λ l. l) (λ l. absurd (out h l)) (cases_lt p chip)
+
 -- so an end is a chip from 1 to p
 pub end_low : (ends chip : ℕ) → has_end ends chip ≡ true → 1 ≤ chip
 end_low ends zero e = absurd (false≢true (sym (no_chip_zero ends) ∙ e))

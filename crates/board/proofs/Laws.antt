@@ -1,14 +1,16 @@
 -- The laws of boards, from the invariant and from what the calls leave.
-use Rattle.std.proofs.Common.{◌≡◌, ℕ, zero, suc, ◌-◌, ◌*◌, ◌/◌, ◌%◌, ◌^◌, ◌<◌, ◌≤◌, true, ◌&&◌, eqb, ltb, leb, length, get_or, Some, None, Option, sym, refl, ap, ◌∙◌, ⊎_elim, arith, shr-shr}
+use Rattle.std.proofs.Common.{◌≡◌, ℕ, zero, suc, ◌-◌, ◌*◌, ◌/◌, ◌%◌, ◌^◌, ◌<◌, ◌≤◌, true, ◌&&◌, eqb, ltb, leb, length, Some, sym, ap, ◌∙◌, ⊎_elim, arith, shr-shr}
 use lib.Count.{ones, ones_step}
-use Rattle.std.proofs.lemmas.List.{get_or-set_same, get_or-set_other}
 use Rattle.std.proofs.lemmas.Bool.{and_parts, leb-true, ltb-true, eq-eqb, cases_lt}
 use Rattle.board.specs.declared.net.Net.{Net}
-use Rattle.board.specs.Held.{Held, with_row}
-use Rattle.board.specs.Laws.{Lawful, LawfulNet, LowestFullEnd, RowAlone}
+use Rattle.board.specs.Held.{Held}
+use Rattle.board.specs.Laws.{Lawful, LawfulNet, LowestFullEnd}
 use Rattle.board.specs.Rows.{are_ends, good_row, has_end, in_limits, load, lock_within, lowest_full_in}
 use Rattle.board.proofs.Ends.{end_low, end_high}
+use Rattle.board.specs.Views.{held_in}
+use Rattle.board.specs.declared.rack.Rack.{Rack}
 use Rattle.board.proofs.Full.{named_full}
+use Rattle.board.proofs.Rows.{Good, good_at}
 
 -- ---- two ends from the count of ones
 
@@ -66,7 +68,7 @@ lawful_net held net g =
     }
 
 pub lawful : (held : Held) → in_limits held.chips held.fpics held.pins ≡ true → length held.rows ≡ 128 →
-    ((i : ℕ) → good_row held.chips held.fpics (get_or held.rows i None) ≡ true) →
+    Good held.chips held.fpics held.rows →
     ((chip : ℕ) → load chip held.rows ≤ held.fpics * held.pins) → Lawful held
 lawful held sized long good loads =
     let s = and_parts (leb 2 held.chips && leb held.chips 32) ((leb 1 held.fpics && leb held.fpics 8) && (leb 1 held.pins && leb held.pins 4)) sized in
@@ -76,29 +78,20 @@ lawful held sized long good loads =
       fpics = between 1 8 held.fpics t.0;
       pins = between 1 4 held.pins t.1;
       numbers = long;
-      nets = λ number net e. lawful_net held net (sym (ap (good_row held.chips held.fpics) e) ∙ good (number - 1));
+      nets = λ number net e. lawful_net held net (sym (ap (good_row held.chips held.fpics) e) ∙ good_at held.chips held.fpics held.rows good (number - 1));
       loads = loads;
     }
   where
     between : (low high n : ℕ) → (leb low n && leb n high) ≡ true → (low ≤ n) × (n ≤ high)
     between low high n e = let b = and_parts (leb low n) (leb n high) e in (leb-true low n b.0, leb-true n high b.1)
 
+pub lawful_rack : (rack : Rack) → Lawful (held_in rack)
+lawful_rack rack = lawful (held_in rack) rack.sizes.sized rack.table.long rack.good rack.loads
+
 -- ---- the chip that is named
 
 pub lowest_full_end : (held : Held) (ends chip : ℕ) → ((c : ℕ) → load c held.rows ≤ held.fpics * held.pins) →
     lowest_full_in (held.fpics * held.pins) held.rows ends ≡ Some chip → LowestFullEnd held ends chip
 lowest_full_end held ends chip loads e =
-    let f = named_full (held.fpics * held.pins) held.rows ends chip e in
-    record { end = f.0; full = omega (arith, f.1, loads chip); lowest = f.2 }
-
--- ---- one row alone
-
-pub row_alone : (held : Held) (net : ℕ) (row : Option Net) → length held.rows ≡ 128 → 1 ≤ net → net ≤ 128 → RowAlone held (with_row held net row) net row
-row_alone held net row long low high =
-    record {
-      own = get_or-set_same held.rows (net - 1) row None (omega arith);
-      others = λ other l ne. get_or-set_other held.rows (net - 1) (other - 1) row None (λ e. ne (omega arith));
-      chips = refl;
-      fpics = refl;
-      pins = refl;
-    }
+    let named = named_full (held.fpics * held.pins) held.rows ends chip e in
+    record { end = named.end; full = omega (arith, named.full, loads chip); lowest = named.lowest }

@@ -4,4 +4,5 @@ pub mod Ends
 pub mod Full
 pub mod Laws
 pub mod Rows
+pub mod Spans
 pub mod Walk

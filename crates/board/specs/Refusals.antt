@@ -1,5 +1,5 @@
--- The number of each refusal of an edit.
-use Rattle.std.specs.Prelude.{ℕ}
+-- The number of each refusal of an edit, and its text.
+use Rattle.std.specs.Prelude.{ℕ, ◌++◌, List, codes, decimal}
 use Rattle.board.specs.declared.refusal.Refusal.{Refusal}
 use Rattle.board.specs.declared.refusal.Refusal.TheVariants.{SizesOutsideLimits, NetOutsideLimits, AlreadyHeld, NotHeld, UnfitEnds, ChipFull, NoSuchFpic, NotLocked}
 
@@ -12,3 +12,7 @@ number UnfitEnds = 5
 number (ChipFull chip) = 6
 number NoSuchFpic = 7
 number NotLocked = 8
+
+-- such as `refused 6`
+abbrev pub refusal_bytes : Refusal → List ℕ
+refusal_bytes refusal = codes "refused " ++ decimal (number refusal)

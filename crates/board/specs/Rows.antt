@@ -1,5 +1,5 @@
 -- The net rows of a board: row n - 1 holds net n, or nothing.
-use Rattle.std.specs.Prelude.{ℕ, zero, suc, ◌-◌, ◌/◌, ◌%◌, ◌^◌, Bool, true, false, cond, ◌&&◌, List, [], ◌∷◌, is_some, Some, None, count_by, Option, ◌==◌, count_ones, nat_le, nat_lt, slice_index_or}
+use Rattle.std.specs.Prelude.{ℕ, zero, suc, ◌-◌, ◌/◌, ◌%◌, ◌^◌, Bool, true, false, ◌&&◌, List, is_some, Some, None, count_by, filter, find, Option, ◌==◌, count_ones, nat_le, nat_lt, slice_index_or}
 use Rattle.std.specs.List.{range_with_len}
 use Rattle.board.specs.declared.net.Net.{Net}
 
@@ -7,6 +7,10 @@ use Rattle.board.specs.declared.net.Net.{Net}
 unfoldable pub has_end : ℕ → ℕ → Bool
 has_end ends zero = false
 has_end ends (suc place) = ends / 2 ^ place % 2 == 1
+
+-- the chips of a set, by rising number
+unfoldable pub chips_of : ℕ → List ℕ
+chips_of ends = filter (has_end ends) (range_with_len 1 32)
 
 -- the row of a net number
 abbrev pub row_of : List (Option Net) → ℕ → Option Net
@@ -48,11 +52,6 @@ good_row chips fpics (Some net) = are_ends chips net.ends && lock_within fpics n
 abbrev pub in_limits : ℕ → ℕ → ℕ → Bool
 in_limits chips fpics pins = (nat_le 2 chips && nat_le chips 32) && ((nat_le 1 fpics && nat_le fpics 8) && (nat_le 1 pins && nat_le pins 4))
 
--- the first of a list that passes the test
-abbrev pub first_that : (ℕ → Bool) → List ℕ → Option ℕ
-first_that test [] = None
-first_that test (x ∷ xs) = cond (test x) (Some x) (first_that test xs)
-
 -- the lowest end that has as many nets as the limit, or more
 unfoldable pub lowest_full_in : ℕ → List (Option Net) → ℕ → Option ℕ
-lowest_full_in limit rows ends = first_that (λ chip. has_end ends chip && nat_le limit (load chip rows)) (range_with_len 1 32)
+lowest_full_in limit rows ends = find (λ chip. nat_le limit (load chip rows)) (chips_of ends)

@@ -1,10 +1,13 @@
 // The size of a sealed board's formula.
-ghost use Rattle.std.specs.Prelude.{◌≡◌, ◌*◌, ◌≤◌};
-ghost use Rattle.board.specs.Measure.{conflicts, measured};
+ghost use Rattle.std.specs.Prelude.{◌≡◌, ◌+◌, ◌*◌, ◌≤◌, Some};
+ghost use Rattle.subsets.specs.Choose.{subset_count};
+ghost use Rattle.board.specs.Measure.{conflicts, measured, measure_bytes};
+ghost use Rattle.board.specs.Rows.{load};
 ghost use Rattle.board.specs.Views.{held_in, held_sealed};
 
 use crate::rack::Rack;
 use crate::sealed::SealedBoard;
+use std::fmt;
 use subsets::subset_count;
 
 #[derive(Clone, Copy, PartialEq, Eq, Debug)]
@@ -14,21 +17,43 @@ pub struct Measure {
     pub literals: u32,
 }
 
+impl fmt::Display for Measure {
+    ghost output = { λ measure. Some (measure_bytes measure) };
+
+    fn fmt<W: fmt::Write>(&self, f: &mut fmt::Formatter<W>) -> fmt::Result {
+        let Measure {
+            variables,
+            clauses,
+            literals,
+        } = self;
+        write!(
+            f,
+            "{variables} variables, {clauses} clauses, {literals} literals"
+        )
+    }
+}
+
 impl Rack {
-    // How many sets of one net more than the pins end on one chip.
+    // How many sets of one net more than the pins end on a chip.
+    fn conflicts_on(&self, chip: u32) -> u32
+        ensures value { result ≡ subset_count (load chip (held_in self.now).rows) ((held_in self.now).pins + 1) }
+        ensures bound { result ≤ 201376 }
+    {
+        subset_count(
+            self.table.load(chip) as usize,
+            self.sizes.pins() as usize + 1,
+        )
+        .unwrap()
+    }
+
+    // The same over all chips.
     fn conflicts(&self) -> u32
         ensures value { result ≡ conflicts (held_in self.now) }
         ensures bound { result ≤ 32 * 201376 }
     {
-        let size = self.pins as usize + 1;
-        let mut total = 0;
-        for place in 0..self.chips as u32 {
-            total += match subset_count(self.table.load(place + 1) as usize, size) {
-                Some(count) => count,
-                None => unreachable(),
-            };
-        }
-        total
+        (1..=u32::from(self.sizes.chips()))
+            .map(|chip| self.conflicts_on(chip))
+            .sum()
     }
 }
 
@@ -38,8 +63,8 @@ impl SealedBoard {
         ensures { result ≡ measured (held_sealed self.now) }
     {
         let nets = self.rack.table.count();
-        let fpics = self.rack.fpics as u32;
-        let pins = self.rack.pins as u32;
+        let fpics = u32::from(self.rack.sizes.fpics());
+        let pins = u32::from(self.rack.sizes.pins());
         let conflicts = self.rack.conflicts();
         Measure {
             variables: nets * fpics,

@@ -1,6 +1,8 @@
 // A net: the chips that it ends on, and perhaps the FPIC that it is locked to.
 ghost use Rattle.std.specs.Prelude.{◌≡◌};
-ghost use Rattle.board.specs.Rows.{has_end};
+ghost use Rattle.board.specs.Rows.{chips_of, has_end};
+
+use crate::chips::Chips;
 
 #[derive(Clone, Copy, PartialEq, Eq, Debug)]
 pub struct Net {
@@ -23,14 +25,18 @@ impl Net {
         self.lock
     }
 
+    // The chips that the net ends on, by rising number.
+    pub fn chips(&self) -> Chips
+        ensures { result ≡ chips_of self.now.ends }
+    {
+        Chips::of(self.ends)
+    }
+
     // Whether the net ends on a chip.
     pub fn ends_on(&self, chip: u32) -> bool
         ensures { result ≡ has_end self.now.ends chip }
     {
         let ends = self.ends;
-        if chip == 0 || chip > 32 {
-            return false;
-        }
-        (ends >> (chip - 1)) % 2 == 1
+        (1..=32).contains(&chip) && (ends >> (chip - 1)) % 2 == 1
     }
 }

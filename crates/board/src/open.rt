@@ -7,9 +7,12 @@ ghost use Rattle.board.specs.Views.{held_in, held_open, held_sealed};
 ghost use Rattle.board.specs.declared.edit.Edit.TheVariants.{Make, Add, Drop, Lock, Unlock};
 ghost use Rattle.board.specs.declared.refusal.Refusal.TheVariants.{ChipFull};
 
+use crate::net::Net;
+use crate::number::NetNumber;
 use crate::rack::Rack;
 use crate::refusal::Refusal;
 use crate::sealed::SealedBoard;
+use crate::sizes::Sizes;
 use crate::table::Table;
 
 #[derive(Drop)]
@@ -24,9 +27,7 @@ impl OpenBoard {
     {
         OpenBoard {
             rack: Rack {
-                chips: 2,
-                fpics: 1,
-                pins: 1,
+                sizes: Sizes::smallest(),
                 table: Table::empty(),
             },
         }
@@ -45,13 +46,8 @@ impl OpenBoard {
         ensures answers { result ≡ answer (judged (held_open self.old) (Make chips fpics pins)) }
         ensures leaves { held_open self.new ≡ after (held_open self.old) (Make chips fpics pins) }
     {
-        if !(2 <= chips && chips <= 32 && 1 <= fpics && fpics <= 8 && 1 <= pins && pins <= 4) {
-            return Err(Refusal::SizesOutsideLimits);
-        }
         self.rack = Rack {
-            chips: chips as u8,
-            fpics: fpics as u8,
-            pins: pins as u8,
+            sizes: Sizes::new(chips, fpics, pins)?,
             table: Table::empty(),
         };
         Ok(())
@@ -64,19 +60,18 @@ impl OpenBoard {
         ensures enters { result ≡ Ok tt → RowAlone (held_open self.old) (held_open self.new) net (Some (record { ends = ends; lock = None })) }
         ensures names { (chip : ℕ) → result ≡ Err (ChipFull chip) → LowestFullEnd (held_open self.old) ends chip }
     {
-        if net < 1 || net > 128 {
-            return Err(Refusal::NetOutsideLimits);
-        }
-        if self.rack.table.net(net).is_some() {
+        let number = NetNumber::try_from(net)?;
+        if self.rack.table.net(number).is_some() {
             return Err(Refusal::AlreadyHeld);
         }
         if !self.rack.are_ends(ends) {
             return Err(Refusal::UnfitEnds);
         }
         if let Some(chip) = self.rack.lowest_full(ends) {
-            return Err(Refusal::ChipFull { chip });
+            return Err(Refusal::ChipFull { chip: chip as u8 });
         }
-        self.rack.table.enter(net, ends);
+        let row = Some(Net { ends, lock: None });
+        self.rack.table.set(number, row);
         Ok(())
     }
 
@@ -86,8 +81,9 @@ impl OpenBoard {
         ensures leaves { held_open self.new ≡ after (held_open self.old) (Drop net) }
         ensures strikes { result ≡ Ok tt → RowAlone (held_open self.old) (held_open self.new) net None }
     {
-        self.rack.find(net)?;
-        self.rack.table.strike(net);
+        let number = NetNumber::try_from(net)?;
+        self.rack.find(number)?;
+        self.rack.table.set(number, None);
         Ok(())
     }
 
@@ -97,11 +93,14 @@ impl OpenBoard {
         ensures leaves { held_open self.new ≡ after (held_open self.old) (Lock net letter) }
         ensures locks { result ≡ Ok tt → RowAlone (held_open self.old) (held_open self.new) net (relocked (Some letter) (row_of (held_open self.old).rows net)) }
     {
-        self.rack.find(net)?;
-        if letter >= self.rack.fpics as u32 {
+        let number = NetNumber::try_from(net)?;
+        let found = self.rack.find(number)?;
+        if letter >= u32::from(self.rack.sizes.fpics()) {
             return Err(Refusal::NoSuchFpic);
         }
-        self.rack.table.set_lock(net, Some(letter as u8));
+        let lock = Some(letter as u8);
+        let row = Some(Net { lock, ..found });
+        self.rack.table.set(number, row);
         Ok(())
     }
 
@@ -111,10 +110,16 @@ impl OpenBoard {
         ensures leaves { held_open self.new ≡ after (held_open self.old) (Unlock net) }
         ensures unlocks { result ≡ Ok tt → RowAlone (held_open self.old) (held_open self.new) net (relocked None (row_of (held_open self.old).rows net)) }
     {
-        if self.rack.find(net)?.lock.is_none() {
+        let number = NetNumber::try_from(net)?;
+        let found = self.rack.find(number)?;
+        if found.lock.is_none() {
             return Err(Refusal::NotLocked);
         }
-        self.rack.table.set_lock(net, None);
+        let row = Some(Net {
+            lock: None,
+            ..found
+        });
+        self.rack.table.set(number, row);
         Ok(())
     }
 

@@ -1,12 +1,14 @@
 // The rows of the 128 net numbers. Net n has row n - 1; a number without a net has an empty row.
-ghost use Rattle.std.specs.Prelude.{◌≡◌, ◌-◌, ◌≤◌, length, set, replicate, Some, None};
-ghost use Rattle.board.specs.Rows.{row_of, ends_on, load, nets, relocked};
+ghost use Rattle.std.specs.Prelude.{◌≡◌, ◌-◌, ◌≤◌, length, replicate, slice_set, None};
+ghost use Rattle.board.specs.Rows.{row_of, load, nets};
 
 use crate::net::Net;
+use crate::number::NetNumber;
 
 #[derive(Drop)]
 pub(crate) struct Table {
     rows: [Option<Net>; 128],
+    // where no code reads the array, as in a lemma on a board, only this tells its length
     ghost long: { length rows ≡ 128 },
 }
 
@@ -18,78 +20,37 @@ impl Table {
     }
 
     // The net of a number, if it is held.
-    pub(crate) fn net(&self, number: u32) -> Option<Net>
-        requires { (1 ≤ number) × (number ≤ 128) }
+    pub(crate) fn net(&self, number: NetNumber) -> Option<Net>
         ensures { result ≡ row_of self.now.rows number }
     {
-        self.rows[number as usize - 1]
+        self.rows[number.place()]
     }
 
-    // Enters a net without a lock.
-    pub(crate) fn enter(&mut self, number: u32, ends: u32)
-        requires { (1 ≤ number) × (number ≤ 128) }
-        ensures { self.new.rows ≡ set self.old.rows (number - 1) (Some (record { ends = ends; lock = None })) }
+    // Writes the row of a number.
+    pub(crate) fn set(&mut self, number: NetNumber, row: Option<Net>)
+        ensures { self.new.rows ≡ slice_set self.old.rows (number - 1) row }
     {
-        self.rows[number as usize - 1] = Some(Net { ends, lock: None });
-    }
-
-    // Strikes a net and its lock.
-    pub(crate) fn strike(&mut self, number: u32)
-        requires { (1 ≤ number) × (number ≤ 128) }
-        ensures { self.new.rows ≡ set self.old.rows (number - 1) None }
-    {
-        self.rows[number as usize - 1] = None;
-    }
-
-    // Writes the lock of a net, where one is held.
-    pub(crate) fn set_lock(&mut self, number: u32, lock: Option<u8>)
-        requires { (1 ≤ number) × (number ≤ 128) }
-        ensures { self.new.rows ≡ set self.old.rows (number - 1) (relocked lock (row_of self.old.rows number)) }
-    {
-        let row = self.rows[number as usize - 1];
-        if let Some(net) = row {
-            self.rows[number as usize - 1] = Some(Net {
-                ends: net.ends,
-                lock,
-            });
-        }
+        self.rows[number.place()] = row;
     }
 
     // How many nets end on a chip.
+    #[tactic(auto, unfolding(crate::specs::Rows::load))]
     pub(crate) fn load(&self, chip: u32) -> u32
         ensures value { result ≡ load chip self.now.rows }
         ensures bound { result ≤ 128 }
     {
-        let mut count = 0;
-        for row in &self.rows {
-            if ends_on(row, chip) {
-                count += 1;
-            }
-        }
-        count
+        self.rows
+            .iter()
+            .filter(|row| row.is_some_and(|net| net.ends_on(chip)))
+            .count() as u32
     }
 
     // How many nets are held.
+    #[tactic(auto, unfolding(crate::specs::Rows::nets))]
     pub(crate) fn count(&self) -> u32
         ensures value { result ≡ nets self.now.rows }
         ensures bound { result ≤ 128 }
     {
-        let mut count = 0;
-        for row in &self.rows {
-            if row.is_some() {
-                count += 1;
-            }
-        }
-        count
-    }
-}
-
-// Whether a row's net ends on a chip.
-fn ends_on(row: &Option<Net>, chip: u32) -> bool
-    ensures { result ≡ ends_on chip row.now }
-{
-    match row {
-        Some(net) => net.ends_on(chip),
-        None => false,
+        self.rows.iter().filter(|row| row.is_some()).count() as u32
     }
 }

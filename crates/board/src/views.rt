@@ -1,38 +1,46 @@
 // What a program may look at in any board.
-ghost use Rattle.std.specs.Prelude.{◌≡◌, ◌≤◌, if◌then◌else◌, None};
+ghost use Rattle.std.specs.Prelude.{◌≡◌, if◌then◌else◌, None};
 ghost use Rattle.board.specs.Finds.{is_number};
 ghost use Rattle.board.specs.Rows.{load, nets, row_of};
 ghost use Rattle.board.specs.Views.{held_in};
 
 use crate::net::Net;
+use crate::number::NetNumber;
 use crate::rack::Rack;
+use crate::sizes::Sizes;
 
 impl Rack {
+    pub fn sizes(&self) -> Sizes
+        ensures chips { result.chips ≡ (held_in self.now).chips }
+        ensures fpics { result.fpics ≡ (held_in self.now).fpics }
+        ensures pins { result.pins ≡ (held_in self.now).pins }
+    {
+        self.sizes
+    }
+
     pub fn chips(&self) -> u8
         ensures { result ≡ (held_in self.now).chips }
     {
-        self.chips
+        self.sizes.chips()
     }
 
     pub fn fpics(&self) -> u8
         ensures { result ≡ (held_in self.now).fpics }
     {
-        self.fpics
+        self.sizes.fpics()
     }
 
     pub fn pins(&self) -> u8
         ensures { result ≡ (held_in self.now).pins }
     {
-        self.pins
+        self.sizes.pins()
     }
 
     // The net of a number, if it is held.
     pub fn net(&self, number: u32) -> Option<Net>
         ensures { result ≡ (if is_number number then row_of (held_in self.now).rows number else None) }
     {
-        if number < 1 || number > 128 {
-            return None;
-        }
+        let number = NetNumber::try_from(number).ok()?;
         self.table.net(number)
     }
 

@@ -3,18 +3,18 @@
 
 #[cfg(test)]
 mod tests {
-    use board::{Edit, Measure, OpenBoard, Refusal};
+    use board::{Chips, Edit, Measure, OpenBoard, Refusal};
     use std::test::Fail;
 
-    // Edits of one board, in order, each with the number that declines it, or 0.
-    const EDITS: [(Edit, u8); 49] = [
+    // Edits of one board, in order, each with the number of its refusal, if any.
+    const EDITS: [(Edit, Option<u8>); 49] = [
         (
             Edit::Make {
                 chips: 1,
                 fpics: 1,
                 pins: 1,
             },
-            1,
+            Some(1),
         ),
         (
             Edit::Make {
@@ -22,7 +22,7 @@ mod tests {
                 fpics: 1,
                 pins: 1,
             },
-            1,
+            Some(1),
         ),
         (
             Edit::Make {
@@ -30,7 +30,7 @@ mod tests {
                 fpics: 0,
                 pins: 1,
             },
-            1,
+            Some(1),
         ),
         (
             Edit::Make {
@@ -38,7 +38,7 @@ mod tests {
                 fpics: 9,
                 pins: 1,
             },
-            1,
+            Some(1),
         ),
         (
             Edit::Make {
@@ -46,7 +46,7 @@ mod tests {
                 fpics: 1,
                 pins: 0,
             },
-            1,
+            Some(1),
         ),
         (
             Edit::Make {
@@ -54,7 +54,7 @@ mod tests {
                 fpics: 1,
                 pins: 5,
             },
-            1,
+            Some(1),
         ),
         (
             Edit::Make {
@@ -62,7 +62,7 @@ mod tests {
                 fpics: 256,
                 pins: 65_536,
             },
-            1,
+            Some(1),
         ),
         (
             Edit::Make {
@@ -70,167 +70,167 @@ mod tests {
                 fpics: 8,
                 pins: 4,
             },
-            0,
+            None,
         ),
-        (Edit::Add { net: 0, ends: 3 }, 2),
-        (Edit::Add { net: 129, ends: 3 }, 2),
+        (Edit::Add { net: 0, ends: 3 }, Some(2)),
+        (Edit::Add { net: 129, ends: 3 }, Some(2)),
         (
             Edit::Add {
                 net: 60_000,
                 ends: 0,
             },
-            2,
+            Some(2),
         ),
         (
             Edit::Add {
                 net: 128,
                 ends: 0xffff_ffff,
             },
-            0,
+            None,
         ),
-        (Edit::Add { net: 128, ends: 0 }, 3),
-        (Edit::Add { net: 1, ends: 0 }, 5),
+        (Edit::Add { net: 128, ends: 0 }, Some(3)),
+        (Edit::Add { net: 1, ends: 0 }, Some(5)),
         (
             Edit::Add {
                 net: 1,
                 ends: 0x8000_0000,
             },
-            5,
+            Some(5),
         ),
         (
             Edit::Add {
                 net: 1,
                 ends: 0x8000_0001,
             },
-            0,
+            None,
         ),
-        (Edit::Lock { net: 1, letter: 7 }, 0),
-        (Edit::Lock { net: 1, letter: 8 }, 7),
+        (Edit::Lock { net: 1, letter: 7 }, None),
+        (Edit::Lock { net: 1, letter: 8 }, Some(7)),
         (
             Edit::Lock {
                 net: 1,
                 letter: 200,
             },
-            7,
+            Some(7),
         ),
         (
             Edit::Lock {
                 net: 2,
                 letter: 200,
             },
-            4,
+            Some(4),
         ),
         (
             Edit::Lock {
                 net: 129,
                 letter: 200,
             },
-            2,
+            Some(2),
         ),
-        (Edit::Unlock { net: 129 }, 2),
-        (Edit::Unlock { net: 2 }, 4),
-        (Edit::Unlock { net: 128 }, 8),
-        (Edit::Unlock { net: 1 }, 0),
-        (Edit::Unlock { net: 1 }, 8),
-        (Edit::Lock { net: 1, letter: 0 }, 0),
-        (Edit::Drop { net: 1 }, 0),
-        (Edit::Drop { net: 1 }, 4),
-        (Edit::Drop { net: 0 }, 2),
-        (Edit::Add { net: 1, ends: 3 }, 0),
-        (Edit::Unlock { net: 1 }, 8),
+        (Edit::Unlock { net: 129 }, Some(2)),
+        (Edit::Unlock { net: 2 }, Some(4)),
+        (Edit::Unlock { net: 128 }, Some(8)),
+        (Edit::Unlock { net: 1 }, None),
+        (Edit::Unlock { net: 1 }, Some(8)),
+        (Edit::Lock { net: 1, letter: 0 }, None),
+        (Edit::Drop { net: 1 }, None),
+        (Edit::Drop { net: 1 }, Some(4)),
+        (Edit::Drop { net: 0 }, Some(2)),
+        (Edit::Add { net: 1, ends: 3 }, None),
+        (Edit::Unlock { net: 1 }, Some(8)),
         (
             Edit::Make {
                 chips: 3,
                 fpics: 2,
                 pins: 2,
             },
-            0,
+            None,
         ),
-        (Edit::Drop { net: 1 }, 4),
+        (Edit::Drop { net: 1 }, Some(4)),
         (
             Edit::Add {
                 net: 1,
                 ends: 0b1001,
             },
-            5,
+            Some(5),
         ),
         (
             Edit::Add {
                 net: 1,
                 ends: 0b011,
             },
-            0,
+            None,
         ),
         (
             Edit::Add {
                 net: 2,
                 ends: 0b011,
             },
-            0,
+            None,
         ),
         (
             Edit::Add {
                 net: 3,
                 ends: 0b011,
             },
-            0,
+            None,
         ),
         (
             Edit::Add {
                 net: 4,
                 ends: 0b101,
             },
-            0,
+            None,
         ),
         (
             Edit::Add {
                 net: 5,
                 ends: 0b101,
             },
-            6,
+            Some(6),
         ),
         (
             Edit::Add {
                 net: 5,
                 ends: 0b110,
             },
-            0,
+            None,
         ),
         (
             Edit::Add {
                 net: 6,
                 ends: 0b110,
             },
-            6,
+            Some(6),
         ),
         (
             Edit::Add {
                 net: 6,
                 ends: 0b111,
             },
-            6,
+            Some(6),
         ),
         (
             Edit::Add {
                 net: 5,
                 ends: 0b111,
             },
-            3,
+            Some(3),
         ),
         (
             Edit::Add {
                 net: 6,
                 ends: 0b1111,
             },
-            5,
+            Some(5),
         ),
-        (Edit::Drop { net: 1 }, 0),
+        (Edit::Drop { net: 1 }, None),
         (
             Edit::Add {
                 net: 6,
                 ends: 0b111,
             },
-            0,
+            None,
         ),
         (
             Edit::Make {
@@ -238,23 +238,17 @@ mod tests {
                 fpics: 1,
                 pins: 5,
             },
-            1,
+            Some(1),
         ),
-        (Edit::Drop { net: 6 }, 0),
+        (Edit::Drop { net: 6 }, None),
     ];
-
-    fn number(answer: Result<(), Refusal>) -> u8 {
-        match answer {
-            Ok(()) => 0,
-            Err(refusal) => refusal.number(),
-        }
-    }
 
     #[test]
     fn edits_are_answered_by_number(rt: HostRuntime) {
         let mut board = OpenBoard::blank();
         for (edit, expected) in EDITS {
-            assert_eq!(rt; number(board.apply(edit)), expected);
+            let refused = board.apply(edit).err().map(|refusal| refusal.number());
+            assert_eq!(rt; refused, expected);
         }
     }
 
@@ -303,5 +297,14 @@ mod tests {
                 literals: 0,
             }
         );
+    }
+
+    #[test]
+    fn the_chips_of_a_set_come_by_rising_number(rt: HostRuntime) {
+        let mut chips = Chips::of(0x8000_0101);
+        assert_eq!(rt; chips.next(), Some(1));
+        assert_eq!(rt; chips.next(), Some(9));
+        assert_eq!(rt; chips.next(), Some(32));
+        assert_eq!(rt; chips.next(), None);
     }
 }

@@ -1,59 +1,51 @@
--- Filling a buffer piece by piece.
-use Rattle.std.proofs.Common.{◌≡◌, ℕ, ◌+◌, ◌<◌, ◌≤◌, List, [], ◌∷◌, ◌++◌, length, take, drop, set, sym, refl, ap, ◌∙◌, add-zero, add-one, arith}
-use lib.Seq.{paste}
+-- Writing a buffer piece by piece, each piece to the front of what is left.
+use Rattle.std.proofs.Common.{◌≡◌, ℕ, suc, ◌+◌, ◌-◌, ◌<◌, ◌≤◌, List, [], ◌∷◌, ◌++◌, length, take, drop, set, sym, refl, ap, ◌∙◌, ap₂, subst, add-one, arith}
 use borrow.Rule.Slice.PartMut.{put_mid}
-use Rattle.std.proofs.lemmas.List.Edits.{length-paste, paste_all, paste-paste}
-use Rattle.std.proofs.lemmas.List.{drop-drop, length-append, set_split, take-append-drop}
-use Rattle.clauses.specs.Filling.{filled}
+use Rattle.std.proofs.lemmas.List.{append_assoc, append-nil, drop-drop, drop_at, length-append, length-drop, drop_all, length_push, set_split, take_all, take_at}
+use Rattle.clauses.specs.Filling.{Writes}
 
-as_paste : {X : Type 0} (at : ℕ) (xs was : List X) → filled at xs was ≡ paste was at xs (length xs)
-unfolding filled
-as_paste at xs was = sym (paste_all was at xs (length xs) refl)
+module _ {X : Type 0} where
+  -- nothing is written
+  pub writes_none : (was : List X) → Writes [] was was 0
+  writes_none was = record { count = refl; buffer = refl }
 
--- nothing is written
-pub filled_none : {X : Type 0} (at : ℕ) (was : List X) → was ≡ filled at [] was
-unfolding filled
-filled_none at was = sym (ap (λ n. take at was ++ drop n was) (add-zero at) ∙ take-append-drop at was)
+  -- what was written goes by another name
+  pub writes_as : {xs ys was is : List X} {n : ℕ} → Writes xs was is n → xs ≡ ys → Writes ys was is n
+  writes_as {xs} {ys} {was} {is} {n} w e = let P : List X → Type 0 = λ l. Writes l was is n in subst P e w
 
--- one piece behind another
-pub filled_more : {X : Type 0} (at next : ℕ) (xs ys was : List X) → at ≤ length was → next ≡ at + length xs → filled next ys (filled at xs was) ≡ filled at (xs ++ ys) was
-filled_more at next xs ys was h e =
-    as_paste next ys (filled at xs was) ∙ ap (λ l. paste l next ys (length ys)) (as_paste at xs was) ∙ ap (λ n. paste (paste was at xs (length xs)) n ys (length ys)) e
-    ∙ paste-paste was at xs ys (length xs) (length ys) refl refl h ∙ ap (paste was at (xs ++ ys)) (sym (length-append xs ys)) ∙ sym (as_paste at (xs ++ ys) was)
+  pub length-written : {xs was is : List X} {n : ℕ} → Writes xs was is n → length xs ≤ length was → length is ≡ length was
+  length-written {xs} {was} {is} {n} w h = omega (arith, ap length w.buffer, length-append xs (drop (length xs) was), length-drop (length xs) was)
 
-pub length-filled : {X : Type 0} (at : ℕ) (xs was : List X) → at + length xs ≤ length was → length (filled at xs was) ≡ length was
-length-filled at xs was h = ap length (as_paste at xs was) ∙ length-paste was at xs (length xs) h (omega arith)
+  -- what is left of the buffer behind a piece
+  rest_of : {xs was mid : List X} {n : ℕ} → Writes xs was mid n → take (length mid - n) (drop n mid) ≡ drop (length xs) was
+  rest_of {xs} {was} {mid} {n} w =
+      take_all (length mid - n) (drop n mid) (omega (arith, length-drop n mid)) ∙ ap (drop n) w.buffer ∙ drop_at xs (drop (length xs) was) n (sym w.count)
 
--- one element
-pub filled_one : {X : Type 0} (at : ℕ) (x : X) (was : List X) → at < length was → set was at x ≡ filled at (x ∷ []) was
-unfolding filled
-filled_one at x was h = set_split was at x h ∙ ap (λ n. take at was ++ (x ∷ drop n was)) (sym (add-one at))
+  pub room_behind : {xs was mid : List X} {n : ℕ} → Writes xs was mid n → (ys : List X) → length (xs ++ ys) ≤ length was → length ys ≤ length (take (length mid - n) (drop n mid))
+  room_behind {xs} {was} {mid} {n} w ys h = omega (arith, ap length (rest_of w), length-drop (length xs) was, length-append xs ys)
 
--- one element behind a piece
-pub filled_push : {X : Type 0} (at next : ℕ) (xs : List X) (x : X) (was : List X) → at + length xs < length was → next ≡ at + length xs →
-    set (filled at xs was) next x ≡ filled at (xs ++ (x ∷ [])) was
-filled_push at next xs x was h e =
-    let long : length (filled at xs was) ≡ length was = length-filled at xs was (omega arith) in
-    filled_one next x (filled at xs was) (omega arith) ∙ filled_more at next xs (x ∷ []) was (omega arith) e
+  -- one piece behind another
+  pub writes_more : {xs ys was mid rest : List X} {n m : ℕ} → Writes xs was mid n → Writes ys (take (length mid - n) (drop n mid)) rest m → Writes (xs ++ ys) was (put_mid n (length mid - n) mid rest) (n + m)
+  writes_more {xs} {ys} {was} {mid} {rest} {n} {m} first second =
+      let front : take n mid ≡ xs = ap (take n) first.buffer ∙ take_at xs (drop (length xs) was) n (sym first.count) in
+      let none : drop (length mid - n) (drop n mid) ≡ [] = drop_all (length mid - n) (drop n mid) (omega (arith, length-drop n mid)) in
+      record {
+        count = omega (arith, length-append xs ys, first.count, second.count);
+        buffer =
+            ap₂ (λ a b. a ++ b) front (ap₂ (λ a b. a ++ b) (second.buffer ∙ ap (λ l. ys ++ drop (length ys) l) (rest_of first) ∙ ap (λ l. ys ++ l) (drop-drop (length ys) (length xs) was)) none ∙ append-nil (ys ++ drop (length xs + length ys) was))
+            ∙ sym (append_assoc xs ys (drop (length xs + length ys) was)) ∙ ap (λ n. (xs ++ ys) ++ drop n was) (sym (length-append xs ys));
+      }
 
--- a part that is written as a whole
-pub filled_part : {X : Type 0} (at k : ℕ) (xs was : List X) → k ≡ length xs → put_mid at k was xs ≡ filled at xs was
-unfolding filled
-filled_part at k xs was e = ap (λ l. take at was ++ (xs ++ l)) (drop-drop k at was ∙ ap (λ n. drop (at + n) was) e)
-
--- filled from the start
-pub filled_start : {X : Type 0} (xs was : List X) → filled 0 xs was ≡ xs ++ drop (length xs) was
-unfolding filled
-filled_start xs was = ap (λ n. xs ++ drop n was) (omega arith)
-
--- a turn of a loop that fills a buffer: so far `front` is written from `from` on, and now `piece`
-pub fill_more : {X : Type 0} (from at next : ℕ) (front piece longer was out out' : List X) → from ≤ length was → at ≡ from + length front → out ≡ filled from front was → longer ≡ front ++ piece →
-    next ≡ at + length piece → out' ≡ filled at piece out → (next ≡ from + length longer) × (out' ≡ filled from longer was)
-fill_more from at next front piece longer was out out' h a o l n w = (
-  omega (arith, simp length-append at (ap length l)),
-  w ∙ ap (filled at piece) o ∙ filled_more from at front piece was h a ∙ ap (λ xs. filled from xs was) (sym l),
-)
-
--- what was written goes by another name
-pub filled_as : {X : Type 0} (at : ℕ) (xs ys was out : List X) → out ≡ filled at xs was → xs ≡ ys → out ≡ filled at ys was
-filled_as at xs ys was out w e = cc
+  -- one element behind a piece
+  pub writes_push : {xs was mid : List X} {n : ℕ} → Writes xs was mid n → (x : X) → length xs < length was → Writes (xs ++ (x ∷ [])) was (set mid n x) (n + 1)
+  writes_push {xs} {was} {mid} {n} w x h =
+      let front : take n mid ≡ xs = ap (take n) w.buffer ∙ take_at xs (drop (length xs) was) n (sym w.count) in
+      let behind : drop (suc n) mid ≡ drop (length (xs ++ (x ∷ []))) was =
+      ap (λ i. drop i mid) (sym (add-one n)) ∙ sym (drop-drop 1 n mid) ∙ ap (drop 1) (ap (drop n) w.buffer ∙ drop_at xs (drop (length xs) was) n (sym w.count)) ∙ drop-drop 1 (length xs) was
+      ∙ ap (λ i. drop i was) (sym (length_push xs x)) in
+      record {
+        count = omega (arith, length_push xs x, w.count);
+        buffer =
+            set_split mid n x (omega (arith, length-written w (omega arith), w.count)) ∙ ap₂ (λ a b. a ++ (x ∷ b)) front behind
+            ∙ sym (append_assoc xs (x ∷ []) (drop (length (xs ++ (x ∷ []))) was));
+      }

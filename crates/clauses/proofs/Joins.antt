@@ -1,17 +1,9 @@
 -- Lists that are joined along a count.
-use Rattle.std.proofs.Common.{◌≡◌, ℕ, zero, suc, ◌+◌, ◌-◌, ◌*◌, ◌/◌, ◌%◌, ◌<◌, ◌≤◌, List, [], ◌∷◌, ◌++◌, map, length, get_or, take, drop, sym, refl, ap, ◌∙◌, ap₂, add-zero, suc-mul, add-mul, zero-add, zero-mul, arith}
+use Rattle.std.proofs.Common.{◌≡◌, ℕ, zero, suc, ◌+◌, ◌-◌, ◌*◌, ◌/◌, ◌%◌, ◌<◌, ◌≤◌, List, [], ◌∷◌, ◌++◌, length, get_or, take, drop, sym, refl, ap, ◌∙◌, ap₂, add-zero, suc-mul, add-mul, zero-add, zero-mul, arith}
 use Rattle.std.proofs.lemmas.Nat.{div-mul-add, mod-mul-add}
-use Rattle.std.proofs.lemmas.List.{append_assoc, append-nil, length-append, take-append-drop, take_more}
+use Rattle.std.proofs.lemmas.List.{append-nil, length-append, take-append-drop, take_more}
+use Rattle.std.proofs.lemmas.List.Concat.{flat_map-append}
 use Rattle.std.specs.List.{range_with_len, flat_map}
-
-pub joined_append : {X Y : Type 0} (f : X → List Y) (xs ys : List X) → flat_map f (xs ++ ys) ≡ flat_map f xs ++ flat_map f ys
-joined_append f [] ys = refl
-joined_append f (x ∷ xs) ys = ap (λ l. f x ++ l) (joined_append f xs ys) ∙ sym (append_assoc (f x) (flat_map f xs) (flat_map f ys))
-
--- lists of one element
-pub joined_single : {X Y : Type 0} (f : X → Y) (xs : List X) → flat_map (λ x. f x ∷ []) xs ≡ map f xs
-joined_single f [] = refl
-joined_single f (x ∷ xs) = ap (λ l. f x ∷ l) (joined_single f xs)
 
 counting_append : (a m n : ℕ) → range_with_len a (m + n) ≡ range_with_len a m ++ range_with_len (a + m) n
 counting_append a zero n =
@@ -26,7 +18,7 @@ counting_append a (suc m) n =
 module _ {Y : Type 0} where
   -- a count in two parts
   pub joined_parts : (f : ℕ → List Y) (a m n : ℕ) → flat_map f (range_with_len a (m + n)) ≡ flat_map f (range_with_len a m) ++ flat_map f (range_with_len (a + m) n)
-  joined_parts f a m n = ap (flat_map f) (counting_append a m n) ∙ joined_append f (range_with_len a m) (range_with_len (a + m) n)
+  joined_parts f a m n = ap (flat_map f) (counting_append a m n) ∙ flat_map-append f (range_with_len a m) (range_with_len (a + m) n)
 
   -- equal lists along two counts
   pub joined_same : (f g : ℕ → List Y) (n a b : ℕ) → ((i : ℕ) → i < n → f (a + i) ≡ g (b + i)) → flat_map f (range_with_len a n) ≡ flat_map g (range_with_len b n)
@@ -67,7 +59,7 @@ module _ {Y : Type 0} where
 module _ {X Y : Type 0} (f : X → List Y) (xs : List X) (i : ℕ) (d : X) (inside : i < length xs) where
   -- the same along a list
   pub joined_take_more : flat_map f (take (i + 1) xs) ≡ flat_map f (take i xs) ++ f (get_or xs i d)
-  joined_take_more = ap (flat_map f) (take_more xs i d inside) ∙ joined_append f (take i xs) (get_or xs i d ∷ []) ∙ ap (λ l. flat_map f (take i xs) ++ l) (append-nil (f (get_or xs i d)))
+  joined_take_more = ap (flat_map f) (take_more xs i d inside) ∙ flat_map-append f (take i xs) (get_or xs i d ∷ []) ∙ ap (λ l. flat_map f (take i xs) ++ l) (append-nil (f (get_or xs i d)))
 
   pub joined_take_room : length (flat_map f (take i xs)) + length (f (get_or xs i d)) ≤ length (flat_map f xs)
   joined_take_room =
@@ -75,11 +67,11 @@ module _ {X Y : Type 0} (f : X → List Y) (xs : List X) (i : ℕ) (d : X) (insi
         arith,
         ap length joined_take_more,
         length-append (flat_map f (take i xs)) (f (get_or xs i d)),
-        ap length (sym (ap (flat_map f) (take-append-drop (i + 1) xs)) ∙ joined_append f (take (i + 1) xs) (drop (i + 1) xs)),
+        ap length (sym (ap (flat_map f) (take-append-drop (i + 1) xs)) ∙ flat_map-append f (take (i + 1) xs) (drop (i + 1) xs)),
         length-append (flat_map f (take (i + 1) xs)) (flat_map f (drop (i + 1) xs)),
       )
 
 -- joined twice
 pub joined_joined : {X Y Z : Type 0} (g : Y → List Z) (f : X → List Y) (xs : List X) → flat_map g (flat_map f xs) ≡ flat_map (λ x. flat_map g (f x)) xs
 joined_joined g f [] = refl
-joined_joined g f (x ∷ xs) = joined_append g (f x) (flat_map f xs) ∙ ap (λ l. flat_map g (f x) ++ l) (joined_joined g f xs)
+joined_joined g f (x ∷ xs) = flat_map-append g (f x) (flat_map f xs) ∙ ap (λ l. flat_map g (f x) ++ l) (joined_joined g f xs)

@@ -1,6 +1,5 @@
 pub mod Assembly
 pub mod Filling
-pub mod Ends
 pub mod Joins
 pub mod Sealed
 pub mod Ranks
@@ -8,3 +7,4 @@ pub mod Sets
 pub mod Spelling
 pub mod Totals
 pub mod Variables
+pub mod Marks

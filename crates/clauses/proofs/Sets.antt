@@ -1,13 +1,12 @@
 -- The numbers of the sets of so many literals, set by set.
-use Rattle.std.proofs.Common.{◌≡◌, ℕ, zero, suc, ◌-◌, ◌<◌, List, [], ◌∷◌, ◌++◌, map, length, get_or, ℤ, pos, sym, refl, ap, ◌∙◌, ap₂, arith}
+use Rattle.std.proofs.Common.{◌≡◌, ℕ, zero, suc, ◌-◌, ◌<◌, List, [], ◌∷◌, ◌++◌, map, length, get_or, take, ℤ, pos, sym, refl, ap, ◌∙◌, ap₂, arith}
 use mathlib.Core.List.{map-map}
-use Rattle.std.proofs.lemmas.List.{append_assoc, append-nil, length-take, map-append, map-id}
+use Rattle.std.proofs.lemmas.List.{append_assoc, append-nil, length_push, map-append, map-id, take_at}
 use Rattle.std.proofs.lemmas.Slice.{between_to_end}
 use Rattle.std.specs.List.{between, flat_map}
 use Rattle.sat.specs.Formula.{encode}
 use Rattle.subsets.specs.Choose.{choose}
-use Rattle.clauses.specs.Sets.{literals_in, set_numbers}
-use Rattle.clauses.specs.declared.literals.Literals.{Literals}
+use Rattle.clauses.specs.Sets.{set_numbers}
 
 -- the formula of two lists of clauses
 pub encode_append : (xs ys : List (List ℤ)) → encode (xs ++ ys) ≡ encode xs ++ encode ys
@@ -67,6 +66,13 @@ pub encode_joined : {X : Type 0} (f : X → List (List ℤ)) (xs : List X) → e
 encode_joined f [] = refl
 encode_joined f (x ∷ xs) = encode_append (f x) (flat_map f xs) ∙ ap (λ l. encode (f x) ++ l) (encode_joined f xs)
 
--- how many literals a list has
-pub length-literals : (list : Literals) → length (literals_in list) ≡ list.count
-length-literals list = omega (arith, length-take list.count list.items, list.long, list.within)
+-- a list that has at each index what a function gives of another list's element there
+pub mapped_by_index : (f : ℕ → ℤ) (xs : List ℕ) (zs : List ℤ) → length zs ≡ length xs → ((i : ℕ) → i < length xs → get_or zs i (pos 0) ≡ f (get_or xs i 0)) → zs ≡ map f xs
+mapped_by_index f [] [] e same = refl
+mapped_by_index f [] (z ∷ zs) e same = absurd (omega arith)
+mapped_by_index f (x ∷ xs) [] e same = absurd (omega arith)
+mapped_by_index f (x ∷ xs) (z ∷ zs) e same = ap₂ (λ a b. a ∷ b) (same 0 (omega arith)) (mapped_by_index f xs zs (omega arith) (λ i h. same (suc i) (omega arith)))
+
+-- a list without the element that was put behind it
+pub popped : (front grown : List ℤ) (z : ℤ) → grown ≡ front ++ (z ∷ []) → take (length grown - 1) grown ≡ front
+popped front grown z e = ap (take (length grown - 1)) e ∙ take_at front (z ∷ []) (length grown - 1) (omega (arith, ap length e, length_push front z))

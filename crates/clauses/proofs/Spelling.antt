@@ -1,29 +1,13 @@
 -- Numbers in decimal digits, digit by digit, and signed ones.
-use Rattle.std.proofs.Common.{◌≡◌, ℕ, ◌+◌, ◌/◌, ◌%◌, ◌^◌, ◌<◌, ◌≤◌, true, false, cond, not, List, [], ◌∷◌, ◌++◌, length, ℤ, pos, negsuc, nat_abs, codes, decimal, sym, refl, ap, ◌∙◌, ap₂, arith}
-use lib.Signed.{lt_z}
-use Rattle.std.proofs.lemmas.Fmt.{decimal_digit, decimal_step}
+use Rattle.std.proofs.Common.{◌≡◌, ℕ, ◌+◌, true, false, cond, not, List, [], ◌∷◌, ◌++◌, length, ℤ, pos, codes, decimal, sym, refl, ap, ◌∙◌, ap₂, arith}
+use Rattle.std.proofs.lemmas.Fmt.{decimal_digit}
 use Rattle.std.proofs.lemmas.List.{append_assoc, length-append, length_push}
-use Rattle.std.proofs.lemmas.Bool.{and_parts, false≢true, ltb-true, not-true}
+use Rattle.std.proofs.lemmas.List.Concat.{flat_map-append}
+use Rattle.std.proofs.lemmas.Bool.{and_parts, not-true}
 use Rattle.std.specs.List.{flat_map, AllByRecursion}
 use Rattle.std.specs.Fmt.{signed_decimal}
 use Rattle.sat.specs.Formula.{encode, is_zero, literals}
 use Rattle.clauses.specs.Text.{head_of, line_feed, line_of, printed, spelled}
-use Rattle.clauses.proofs.Joins.{joined_append}
-
-pub digit_one : (n : ℕ) → n < 10 → length (decimal n) ≡ 1
-digit_one n h = ap length (decimal_digit n h)
-
-pub digit_more : (n : ℕ) → 10 ≤ n → n < 2 ^ 32 → length (decimal n) ≡ length (decimal (n / 10)) + 1
-digit_more n l h = ap length (decimal_step n l (omega arith)) ∙ length_push (decimal (n / 10)) (48 + n % 10)
-
--- a negative number has its sign first
-pub signed_negative : (z : ℤ) → lt_z z (pos 0) ≡ true → signed_decimal z ≡ 45 ∷ decimal (nat_abs z)
-signed_negative (pos n) h = absurd (omega (arith, ltb-true n 0 h))
-signed_negative (negsuc n) h = refl
-
-pub signed_natural : (z : ℤ) → lt_z z (pos 0) ≡ false → signed_decimal z ≡ decimal (nat_abs z)
-signed_natural (pos n) h = refl
-signed_natural (negsuc n) h = absurd (false≢true (sym h))
 
 -- a literal has its space behind it, a number of a formula what its place asks for
 pub length-spelled : (z : ℤ) → length (spelled z) ≡ length (signed_decimal z) + 1
@@ -73,6 +57,6 @@ pub printed-encode : (clauses : List (List ℤ)) → AllByRecursion (λ clause. 
 unfolding line_of
 printed-encode [] h = refl
 printed-encode (clause ∷ clauses) h =
-    joined_append printed clause (pos 0 ∷ encode clauses)
+    flat_map-append printed clause (pos 0 ∷ encode clauses)
     ∙ ap₂ (λ a b. a ++ b) (printed_clause clause h.0) (ap₂ (λ a b. a ++ b) printed_end (printed-encode clauses h.1))
     ∙ sym (append_assoc (flat_map spelled clause) (codes "0" ++ line_feed) (flat_map line_of clauses))

@@ -1,13 +1,18 @@
 -- How long the lines of all sets of so many literals are: each literal stands in as many sets as the others have sets of one element less.
-use Rattle.std.proofs.Common.{◌≡◌, ℕ, zero, suc, ◌+◌, ◌-◌, ◌*◌, ◌<◌, List, [], ◌∷◌, map, length, replicate, ℤ, sum_by, sym, refl, ap, ◌∙◌, ap₂, suc-mul, add-mul, mul-zero, zero-mul, mul-add, arith}
+use Rattle.std.proofs.Common.{◌≡◌, ℕ, zero, suc, ◌+◌, ◌-◌, ◌*◌, ◌<◌, ◌≤◌, List, [], ◌∷◌, map, length, replicate, ℤ, pos, sum_by, sym, refl, ap, ◌∙◌, ap₂, suc-mul, add-mul, mul-zero, zero-mul, mul-add, arith, w16, SFits}
+use mir.Val.{of_z, to_z}
+use Rattle.std.proofs.lemmas.Fmt.{length_signed_le}
+use Rattle.std.proofs.lemmas.Int.{to_z-of_z}
 use Rattle.std.proofs.lemmas.List.{length-append, length-replicate}
 use Rattle.std.proofs.lemmas.List.Sums.{sum_by-append, sum_by-cons}
-use Rattle.std.specs.List.{flat_map}
+use Rattle.std.proofs.lemmas.List.Concat.{length-flat_map}
+use Rattle.std.specs.List.{All, flat_map}
 use Rattle.subsets.proofs.Count.{count_more, count_none}
 use Rattle.subsets.proofs.Sublists.{length-choose}
 use Rattle.subsets.specs.Choose.{choose, subset_count}
 use Rattle.clauses.specs.Text.{line_of, spelled}
 use Rattle.clauses.proofs.Sets.{choose_all}
+use Rattle.clauses.proofs.Spelling.{length-spelled}
 
 module _ {X : Type 0} (g : X → ℕ) where
   -- the sum over all elements of all sets
@@ -91,17 +96,24 @@ count_whole n =
 -- ---- lines
 
 -- the bytes of a literal
-pub spelled_length : ℤ → ℕ
+abbrev pub spelled_length : ℤ → ℕ
 spelled_length z = length (spelled z)
 
-pub spelled-length : (z : ℤ) → spelled_length z ≡ length (spelled z)
-unfolding spelled_length
-spelled-length z = refl
+-- a literal of 16 bits and its space have at most 7 bytes
+pub spelled_short : (z : ℤ) → SFits w16 z → spelled_length z ≤ 7
+spelled_short z fits = omega (arith, length-spelled z, length_signed_le 5 z (omega (arith, fits.sfits)) (omega (arith, fits.sfits)))
 
-pub length_spelt : (clause : List ℤ) → length (flat_map spelled clause) ≡ sum_by spelled_length clause
-unfolding spelled_length
-length_spelt [] = refl
-length_spelt (z ∷ clause) = omega (arith, length-append (spelled z) (flat_map spelled clause), length_spelt clause, sum_by-cons spelled_length z clause)
+-- literals that are read as 16 bits
+pub sum_of_read : (zs : List ℤ) → All (SFits w16) zs → sum_by (λ z. length (spelled (to_z w16 (of_z w16 z)))) zs ≡ sum_by spelled_length zs
+sum_of_read [] fits = refl
+sum_of_read (z ∷ zs) fits =
+    omega (
+      arith,
+      sum_by-cons (λ z. length (spelled (to_z w16 (of_z w16 z)))) z zs,
+      ap (λ z. length (spelled z)) (to_z-of_z w16 z (fits 0 (pos 0) (omega arith))),
+      sum_of_read zs (λ i d h. fits (suc i) d (omega arith)),
+      sum_by-cons spelled_length z zs,
+    )
 
 -- the bytes of the lines of clauses
 pub length_lines : (clauses : List (List ℤ)) → length (flat_map line_of clauses) ≡ sum_by (sum_by spelled_length) clauses + 2 * length clauses
@@ -112,7 +124,7 @@ length_lines (clause ∷ clauses) =
       arith,
       length-append (line_of clause) (flat_map line_of clauses),
       length-append (flat_map spelled clause) (48 ∷ 10 ∷ []),
-      length_spelt clause,
+      length-flat_map spelled clause,
       length_lines clauses,
       sum_by-cons (sum_by spelled_length) clause clauses,
     )

@@ -1,6 +1,7 @@
--- A buffer that is filled from a place on.
-use Rattle.std.specs.Prelude.{ℕ, ◌+◌, List, ◌++◌, length, take, drop}
+-- What a writer does with a buffer.
+use Rattle.std.specs.Prelude.{◌≡◌, ℕ, List, ◌++◌, length, drop}
 
--- the buffer with these elements from the place `at` on, and the others as they were
-unfoldable pub filled : {X : Type 0} → ℕ → List X → List X → List X
-filled at xs was = take at was ++ (xs ++ drop (at + length xs) was)
+-- the buffer begins with these elements, those behind them are as they were, and the answer is how many were written
+pub record Writes {X : Type 0} (xs was is : List X) (written : ℕ) : Type 0 where
+  pub count : written ≡ length xs
+  pub buffer : is ≡ xs ++ drop (length xs) was

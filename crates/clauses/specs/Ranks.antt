@@ -1,17 +1,13 @@
 -- The ranking of a board's nets.
-use Rattle.std.specs.Prelude.{◌≡◌, ℕ, ◌+◌, ◌*◌, List, length, take, drop, Option, slice_index}
+use Rattle.std.specs.Prelude.{◌≡◌, ℕ, ◌+◌, List, [], length, Option, slice_index_or}
 use Rattle.board.specs.Held.{Held}
 use Rattle.board.specs.declared.net.Net.{Net}
 use Rattle.plans.specs.Nets.{nets_of, ranks_from}
 use Rattle.clauses.specs.declared.ranking.Ranking.{Ranking}
 
--- lists of at most 32 elements, in one list: how many each has, and its elements from 32 × its place on
-unfoldable pub slot : (counts elements : List ℕ) (place : ℕ) → List ℕ
-slot counts elements place = take (slice_index counts place) (drop (32 * place) elements)
-
 -- the ranks that it has for the chip of a place; chip c is at place c - 1
 abbrev pub ranks_at : Ranking → ℕ → List ℕ
-ranks_at ranking place = slot ranking.counts ranking.ranks place
+ranks_at ranking place = (slice_index_or ranking.ranks place (record { items = [] })).items
 
 -- it ranks the nets of these rows
 pub record Ranks (rows : List (Option Net)) (ranking : Ranking) : Type 0 where
@@ -20,12 +16,6 @@ pub record Ranks (rows : List (Option Net)) (ranking : Ranking) : Type 0 where
 
 -- it has the sizes of a board
 pub record Sized (held : Held) (ranking : Ranking) : Type 0 where
-  pub chips : ranking.chips ≡ held.chips
-  pub fpics : ranking.fpics ≡ held.fpics
-  pub pins : ranking.pins ≡ held.pins
-
--- two rankings of one board's sizes
-pub record SameSizes (before after : Ranking) : Type 0 where
-  pub chips : after.chips ≡ before.chips
-  pub fpics : after.fpics ≡ before.fpics
-  pub pins : after.pins ≡ before.pins
+  pub chips : ranking.sizes.chips ≡ held.chips
+  pub fpics : ranking.sizes.fpics ≡ held.fpics
+  pub pins : ranking.sizes.pins ≡ held.pins

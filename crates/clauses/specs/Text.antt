@@ -1,5 +1,5 @@
 -- The text of a formula in DIMACS form: a line with its variables and clauses, then a line for each clause, its literals and 0 with single spaces.
-use Rattle.std.specs.Prelude.{◌≡◌, ℕ, ◌*◌, ◌<◌, ◌≤◌, cond, List, [], ◌∷◌, ◌++◌, length, drop, ℤ, Ok, Err, codes, decimal, Result}
+use Rattle.std.specs.Prelude.{◌≡◌, ℕ, ◌*◌, ◌<◌, ◌≤◌, if◌then◌else◌, List, [], ◌∷◌, ◌++◌, length, drop, ℤ, Ok, Err, codes, decimal, Result}
 use Rattle.std.specs.Fmt.{signed_decimal}
 use Rattle.std.specs.List.{flat_map}
 use Rattle.sat.specs.Formula.{is_zero}
@@ -31,7 +31,7 @@ text_of held = head_of (length (nets_of held.rows) * held.fpics) (length (clause
 
 -- a number of a formula, as the text has it: a literal and a space, or the 0 that ends a clause and its line
 unfoldable pub printed : ℤ → List ℕ
-printed z = signed_decimal z ++ cond (is_zero z) line_feed (codes " ")
+printed z = signed_decimal z ++ (if is_zero z then line_feed else codes " ")
 
 -- a buffer is too short: it is named with the length needed, and nothing is written to either
 pub record TextRefused (buffer : Buffer) (needed : ℕ) (formula formula' : List ℤ) (out out' : List ℕ) (r : Result ℕ ShortBuffer) : Type 0 where

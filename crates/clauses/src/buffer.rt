@@ -1,6 +1,9 @@
 // The buffers that a caller lends, and the refusal of one that is too short.
-ghost use Rattle.std.specs.Prelude.{◌≡◌};
+ghost use Rattle.std.specs.Prelude.{◌≡◌, ◌++◌, Some, codes, decimal};
 ghost use Rattle.clauses.specs.Buffers.{number};
+
+use std::error::Error;
+use std::fmt;
 
 #[derive(Clone, Copy, PartialEq, Eq, Debug)]
 pub enum Buffer {
@@ -28,3 +31,14 @@ impl ShortBuffer {
         11
     }
 }
+
+// The line of the refusal, without its line feed: its number alone.
+impl fmt::Display for ShortBuffer {
+    ghost output = { λ short. Some (codes "refused " ++ decimal (number short)) };
+
+    fn fmt<W: fmt::Write>(&self, f: &mut fmt::Formatter<W>) -> fmt::Result {
+        write!(f, "refused {}", self.number())
+    }
+}
+
+impl Error for ShortBuffer {}

@@ -1,52 +1,48 @@
-// How long the text of a formula is, found without the formula.
+// How long the first line and the lines of the clauses are, found without the formula.
 ghost use Rattle.std.specs.Prelude.{◌≡◌, ◌*◌, ◌^◌, ◌<◌, ◌≤◌, length};
 ghost use Rattle.std.specs.List.{flat_map};
 ghost use Rattle.subsets.specs.Choose.{subset_count};
-ghost use Rattle.board.specs.Views.{held_sealed};
 ghost use Rattle.clauses.specs.Blocks.{all_blocks, clauses_in};
-ghost use Rattle.clauses.specs.Text.{head_of, line_of, spelled, text_of};
+ghost use Rattle.clauses.specs.Text.{head_of, line_of, spelled};
 
 use crate::block::Block;
-use crate::decimals::{digit_count, literal_length};
+use crate::decimals::{decimal_length, literal_length};
 use crate::ranking::Ranking;
-use board::{Measure, SealedBoard};
+use board::Measure;
 use subsets::subset_count;
 
 // How many sets of so many elements there are.
 fn set_count(count: usize, size: usize) -> usize
-    requires { (count ≤ 32) × ((5 < size → size ≡ count)) }
+    requires known { count ≤ 32 }
+    requires whole { 5 < size → size ≡ count }
     ensures value { result ≡ subset_count count size }
     ensures bound { result ≤ 201376 }
 {
     if size == count {
         return 1;
     }
-    match subset_count(count, size) {
-        Some(sets) => sets as usize,
-        None => unreachable(),
-    }
+    subset_count(count, size).unwrap() as usize
 }
 
 // The bytes of the literals, each with its space.
 fn literals_length(literals: &[i16]) -> usize
     requires { length literals.now ≤ 32 }
     ensures value { result ≡ length (flat_map spelled literals.now) }
-    ensures bound { result ≤ 384 }
+    ensures bound { result ≤ 224 }
 {
-    let mut total = 0;
-    for literal in literals {
-        total += literal_length(*literal);
-    }
-    total
+    literals
+        .iter()
+        .map(|literal| literal_length(*literal))
+        .sum()
 }
 
 impl Block {
     // The bytes of the lines of the block's clauses. A literal stands in as many sets as the others have sets of one literal less.
-    fn text_length(&self) -> usize
+    fn lines_length(&self) -> usize
         ensures value { result ≡ length (flat_map line_of (clauses_in self.now)) }
         ensures bound { result < 2 ^ 27 }
     {
-        let count = self.literals.count;
+        let count = self.literals.len();
         if count < self.size {
             return 0;
         }
@@ -58,28 +54,22 @@ impl Block {
 
 impl Ranking {
     // The bytes of the lines of all clauses.
-    fn text_length(&self) -> usize
+    pub(crate) fn lines_length(&self) -> usize
         ensures value { result ≡ length (flat_map line_of (all_blocks self.now)) }
         ensures bound { result < 2 ^ 37 }
     {
         let mut total = 0;
         for index in 0..self.block_count() {
-            total += self.block(index).text_length();
+            total += self.block(index).lines_length();
         }
         total
     }
 }
 
 // The bytes of the first line.
-fn head_length(measure: Measure) -> usize
+pub(crate) fn head_length(measure: Measure) -> usize
     ensures value { result ≡ length (head_of measure.variables measure.clauses) }
     ensures bound { result ≤ 28 }
 {
-    6 + digit_count(measure.variables) + 1 + digit_count(measure.clauses) + 1
-}
-
-pub(crate) fn text_length(board: &SealedBoard) -> usize
-    ensures { result ≡ length (text_of (held_sealed board.now)) }
-{
-    head_length(board.measure()) + Ranking::of(board.rack()).text_length()
+    6 + decimal_length(measure.variables) + 1 + decimal_length(measure.clauses) + 1
 }

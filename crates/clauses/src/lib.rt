@@ -6,14 +6,11 @@ mod blocks;
 pub mod buffer;
 mod decimals;
 mod lengths;
-mod lists;
-mod literals;
 pub mod numbers;
 pub mod printing;
 mod ranking;
 #[cfg(test)]
 mod tests;
-mod walk;
 mod writing;
 
 pub use buffer::{Buffer, ShortBuffer};

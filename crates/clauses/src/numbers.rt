@@ -1,63 +1,48 @@
 // The formula of a sealed board as signed numbers.
-ghost use Rattle.std.specs.Prelude.{◌≡◌, ◌+◌, ◌≤◌, ◌++◌, length, drop};
+ghost use Rattle.std.specs.Prelude.{◌≡◌, ◌+◌, ◌≤◌, length};
 ghost use Rattle.sat.specs.Formula.{encode};
 ghost use Rattle.board.specs.Views.{held_sealed};
 ghost use Rattle.plans.specs.Laws.{BoardLaws};
 ghost use Rattle.clauses.specs.Blocks.{all_blocks, clauses_in};
-ghost use Rattle.clauses.specs.Filling.{filled};
-ghost use Rattle.clauses.specs.Formulas.{Formulated, formula_of};
+ghost use Rattle.clauses.specs.Filling.{Writes};
+ghost use Rattle.clauses.specs.Formulas.{Formulated};
 
-use crate::block::Block;
+use crate::block::{Block, Literals};
 use crate::buffer::{Buffer, ShortBuffer};
-use crate::literals::Literals;
 use crate::ranking::Ranking;
 use crate::writing::write_sets;
-use board::SealedBoard;
+use board::{Measure, SealedBoard};
 
 impl Block {
-    // Writes the clauses of the block, and answers the place behind them.
-    fn write(&self, out: &mut [i16], at: usize) -> usize
-        requires { at + length (encode (clauses_in self.now)) ≤ length out.old }
-        ensures next { result ≡ at + length (encode (clauses_in self.now)) }
-        ensures writes { out.new ≡ filled at (encode (clauses_in self.now)) out.old }
+    // Writes the clauses of the block.
+    fn write(&self, out: &mut [i16]) -> usize
+        requires { length (encode (clauses_in self.now)) ≤ length out.old }
+        ensures { Writes (encode (clauses_in self.now)) out.old out.new result }
     {
-        write_sets(
-            Literals::empty(),
-            self.size,
-            self.literals.as_slice(),
-            out,
-            at,
-        )
+        let mut front = Literals::new();
+        write_sets(&mut front, self.size, self.literals.as_slice(), out)
     }
 }
 
 impl Ranking {
     // Writes the clauses of all blocks.
-    pub(crate) fn write(&self, out: &mut [i16])
+    pub(crate) fn write(&self, out: &mut [i16]) -> usize
         requires { length (encode (all_blocks self.now)) ≤ length out.old }
-        ensures { out.new ≡ filled 0 (encode (all_blocks self.now)) out.old }
+        ensures { Writes (encode (all_blocks self.now)) out.old out.new result }
     {
-        let mut at = 0;
+        let mut count = 0;
         for index in 0..self.block_count() {
-            at = self.block(index).write(out, at);
+            count += self.block(index).write(&mut out[count..]);
         }
+        count
     }
 }
 
-// How many numbers the formula has: a number for each literal, and a 0 for each clause.
-pub(crate) fn formula_length(board: &SealedBoard) -> usize
-    ensures { result ≡ length (formula_of (held_sealed board.now)) }
+// How many numbers a formula has: one for each literal, and a 0 for each clause.
+pub(crate) fn number_count(measure: Measure) -> usize
+    ensures { result ≡ measure.literals + measure.clauses }
 {
-    let measure = board.measure();
     measure.literals as usize + measure.clauses as usize
-}
-
-// Writes the formula to the front of a buffer that holds it.
-pub(crate) fn write_formula(board: &SealedBoard, out: &mut [i16])
-    requires { length (formula_of (held_sealed board.now)) ≤ length out.old }
-    ensures { out.new ≡ formula_of (held_sealed board.now) ++ drop (length (formula_of (held_sealed board.now))) out.old }
-{
-    Ranking::of(board.rack()).write(out);
 }
 
 // Writes the formula of the board to the front of the buffer, and answers its length.
@@ -65,13 +50,13 @@ pub fn formula(board: &SealedBoard, out: &mut [i16]) -> Result<usize, ShortBuffe
     ensures writes { Formulated (held_sealed board.now) out.old out.new result }
     ensures laws { BoardLaws (held_sealed board.now) }
 {
-    let needed = formula_length(board);
+    let ranking = Ranking::of(board);
+    let needed = number_count(board.measure());
     if out.len() < needed {
         return Err(ShortBuffer {
             buffer: Buffer::Formula,
             needed,
         });
     }
-    write_formula(board, out);
-    Ok(needed)
+    Ok(ranking.write(out))
 }

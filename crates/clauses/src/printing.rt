@@ -1,69 +1,71 @@
 // The text of a sealed board's formula.
-ghost use Rattle.std.specs.Prelude.{◌≡◌, ◌+◌, ◌≤◌, ◌++◌, length, decimal};
+ghost use Rattle.std.specs.Prelude.{◌≤◌, ◌++◌, length, decimal};
 ghost use Rattle.std.specs.List.{flat_map};
 ghost use Rattle.board.specs.Views.{held_sealed};
-ghost use Rattle.clauses.specs.Filling.{filled};
+ghost use Rattle.clauses.specs.Filling.{Writes};
 ghost use Rattle.clauses.specs.Text.{Printed, head_of, printed};
 
 use crate::buffer::{Buffer, ShortBuffer};
 use crate::decimals::{write_decimal, write_number};
-use crate::lengths::text_length;
-use crate::numbers::{formula_length, write_formula};
+use crate::lengths::head_length;
+use crate::numbers::number_count;
+use crate::ranking::Ranking;
 use crate::writing::write_all;
 use board::{Measure, SealedBoard};
 
 // Writes a word and a number behind it.
-fn write_field(word: &[u8], n: u32, out: &mut [u8], at: usize) -> usize
-    requires { at + length (word.now ++ decimal n) ≤ length out.old }
-    ensures next { result ≡ at + length (word.now ++ decimal n) }
-    ensures writes { out.new ≡ filled at (word.now ++ decimal n) out.old }
+fn write_field(word: &[u8], n: u32, out: &mut [u8]) -> usize
+    requires { length (word.now ++ decimal n) ≤ length out.old }
+    ensures { Writes (word.now ++ decimal n) out.old out.new result }
 {
-    let end = write_all(word, out, at);
-    write_decimal(n, out, end)
+    let count = write_all(word, out);
+    count + write_decimal(n, &mut out[count..])
 }
 
-// Writes the first line to the front of the buffer, and answers its length.
+// Writes the first line.
 fn write_head(measure: Measure, out: &mut [u8]) -> usize
     requires { length (head_of measure.variables measure.clauses) ≤ length out.old }
-    ensures next { result ≡ length (head_of measure.variables measure.clauses) }
-    ensures writes { out.new ≡ filled 0 (head_of measure.variables measure.clauses) out.old }
+    ensures { Writes (head_of measure.variables measure.clauses) out.old out.new result }
 {
-    let variables = write_field(b"p cnf ", measure.variables, out, 0);
-    let clauses = write_field(b" ", measure.clauses, out, variables);
-    write_all(b"\n", out, clauses)
+    let mut count = write_field(b"p cnf ", measure.variables, out);
+    count += write_field(b" ", measure.clauses, &mut out[count..]);
+    count + write_all(b"\n", &mut out[count..])
 }
 
 // Writes the numbers of a formula, a clause a line.
-fn write_lines(numbers: &[i16], out: &mut [u8], at: usize)
-    requires { at + length (flat_map printed numbers.now) ≤ length out.old }
-    ensures { out.new ≡ filled at (flat_map printed numbers.now) out.old }
+fn write_lines(numbers: &[i16], out: &mut [u8]) -> usize
+    requires { length (flat_map printed numbers.now) ≤ length out.old }
+    ensures { Writes (flat_map printed numbers.now) out.old out.new result }
 {
-    let mut next = at;
+    let mut count = 0;
     for number in numbers {
-        next = write_number(*number, out, next);
+        count += write_number(*number, &mut out[count..]);
     }
+    count
 }
 
 // Writes the formula of the board to the front of the first buffer and its text to the front of the second, and answers the text's length.
 pub fn text(board: &SealedBoard, formula: &mut [i16], out: &mut [u8]) -> Result<usize, ShortBuffer>
     ensures { Printed (held_sealed board.now) formula.old formula.new out.old out.new result }
 {
-    let count = formula_length(board);
+    let ranking = Ranking::of(board);
+    let measure = board.measure();
+    let count = number_count(measure);
     if formula.len() < count {
         return Err(ShortBuffer {
             buffer: Buffer::Formula,
             needed: count,
         });
     }
-    let needed = text_length(board);
+    let needed = head_length(measure) + ranking.lines_length();
     if out.len() < needed {
         return Err(ShortBuffer {
             buffer: Buffer::Text,
             needed,
         });
     }
-    write_formula(board, formula);
-    let head = write_head(board.measure(), out);
-    write_lines(&formula[0..count], out, head);
-    Ok(needed)
+    ranking.write(formula);
+    let head = write_head(measure, out);
+    let lines = write_lines(&formula[..count], &mut out[head..]);
+    Ok(head + lines)
 }

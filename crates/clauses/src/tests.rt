@@ -1,5 +1,6 @@
 // The printed board of three nets, short buffers, and the largest board.
-use crate::lengths::text_length;
+use crate::lengths::head_length;
+use crate::ranking::Ranking;
 use crate::{Buffer, ShortBuffer, formula, text};
 use board::{OpenBoard, SealedBoard};
 use std::test::Fail;
@@ -75,6 +76,9 @@ fn measures_the_largest_board(rt: HostRuntime) -> Result<(), Fail> {
             needed: 309325440,
         })
     );
-    assert_eq!(rt; text_length(&board), 1371064868);
+    assert_eq!(rt;
+        head_length(board.measure()) + Ranking::of(&board).lines_length(),
+        1371064868
+    );
     Ok(())
 }

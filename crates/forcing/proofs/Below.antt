@@ -1,21 +1,23 @@
 -- The question that is put to the solver below has the same models, and the answer to it is the layer's own.
-use Rattle.std.proofs.Common.{◌≡◌, ℕ, ◌≤◌, min, Bool, true, false, cond, not, ◌&&◌, ltb, List, [], ◌∷◌, length, take, ℤ, Some, None, Ok, Err, Option, Result, sym, refl, ap, ◌∙◌, subst, arith}
+use Rattle.std.proofs.Common.{◌≡◌, ℕ, ◌≤◌, min, Bool, true, false, cond, not, ◌&&◌, ltb, List, [], ◌∷◌, length, take, ℤ, Some, None, Ok, Err, Result, refl, subst, arith}
 use Rattle.std.specs.List.{AllByRecursion}
 use Rattle.std.proofs.ByRecursion.{All-weaker}
 use Rattle.std.proofs.lemmas.Bool.{and_from, ltb-false, le-ltb}
 use Rattle.sat.specs.Formula.{is_true, closed, within, literals}
 use Rattle.sat.specs.Question.{Models, Truth, refusal, well_formed, Solved, Answered}
+use Rattle.sat.specs.declared.question.Question.{Question}
 use Rattle.sat.specs.declared.question.Refusal.{Refusal}
 use Rattle.sat.specs.declared.question.Verdict.{Verdict}
 use Rattle.sat.specs.declared.question.Verdict.TheVariants.{Yes, No}
 use Rattle.scan.specs.Values.{reads}
+use Rattle.scan.specs.declared.values.TheConstants.{LARGEST}
 use Rattle.scan.specs.declared.value.Value.{Value}
 use Rattle.scan.specs.declared.value.Value.TheVariants.{True}
 use Rattle.scan.proofs.Agreement.{agrees_true}
 use Rattle.scan.proofs.Literals.{Names}
 use Rattle.forcing.specs.Fixing.{Fixed, Lists}
 use Rattle.forcing.specs.Listing.{fixed_up_to}
-use Rattle.forcing.proofs.Fixes.{formed_closed, formed_within, formed_names}
+use Rattle.forcing.proofs.Fixes.{formula_closed, formula_within, assumed_name}
 use Rattle.forcing.proofs.Lists.{within_from_names, literals_from_names, fixed_reads, fixed_names, fixed_has}
 
 -- a question that is not refused
@@ -25,9 +27,9 @@ pub record Taken (largest v : ℕ) (formula assumed : List ℤ) (room : ℕ) : T
   pub fits : v ≤ room
 
 taken_by : (x y z : Bool) (e f g : Refusal) → cond x (Some e) (cond (not y) (Some f) (cond z (Some g) None)) ≡ None → (x ≡ false) × (y ≡ true) × (z ≡ false)
-taken_by true y z e f g n = let k : ◌≡◌ {A = ℕ} 0 1 = cc in absurd (omega arith)
-taken_by false false z e f g n = let k : ◌≡◌ {A = ℕ} 0 1 = cc in absurd (omega arith)
-taken_by false true true e f g n = let k : ◌≡◌ {A = ℕ} 0 1 = cc in absurd (omega arith)
+taken_by true y z e f g n = cc
+taken_by false false z e f g n = cc
+taken_by false true true e f g n = cc
 taken_by false true false e f g n = (refl, refl, refl)
 
 module _ (largest v : ℕ) (formula assumed : List ℤ) (room : ℕ) where
@@ -36,10 +38,6 @@ module _ (largest v : ℕ) (formula assumed : List ℤ) (room : ℕ) where
       let t = taken_by (ltb largest v) (well_formed v formula assumed) (ltb room v) _ _ _ n in
       record { small = ltb-false largest v t.0; formed = t.1; fits = ltb-false room v t.2 }
 
-  -- as a judgement by the layer's largest tells
-  pub none_from_judged : (l : ℕ) (judged : Option Refusal) → l ≡ largest → judged ≡ refusal l v formula assumed room → judged ≡ None → refusal largest v formula assumed room ≡ None
-  none_from_judged l judged e j n = ap (λ k. refusal k v formula assumed room) (sym e) ∙ (sym j ∙ n)
-
   pub none_from_taken : Taken largest v formula assumed room → refusal largest v formula assumed room ≡ None
   none_from_taken t =
       let x = le-ltb largest v t.small in
@@ -47,22 +45,26 @@ module _ (largest v : ℕ) (formula assumed : List ℤ) (room : ℕ) where
       let z = le-ltb room v t.fits in
       simp (x, y, z)
 
-module _ (v : ℕ) (formula assumed : List ℤ) (values : List Value) (fixed : Fixed v formula assumed values) where
-  pub to_below : (m : List ℕ) → Models v formula assumed m → Models v formula (fixed_up_to values v) m
+module _ (question : Question) (values : List Value) (fixed : Fixed question.variables question.formula.now question.assumed.now values) where
+  to_below : (m : List ℕ) → Models question.variables question.formula.now question.assumed.now m → Models question.variables question.formula.now (fixed_up_to values question.variables) m
   to_below m s =
       record {
         size = s.size;
         bits = s.bits;
         clauses = s.clauses;
-        kept = All-weaker (λ z. reads values z ≡ True) (λ z. is_true m z ≡ true) (agrees_true values m (fixed.implied m s)) (fixed_up_to values v) (fixed_reads values v);
+        kept =
+            All-weaker (λ z. reads values z ≡ True) (λ z. is_true m z ≡ true) (agrees_true values m (fixed.implied m s)) (fixed_up_to values question.variables)
+            (fixed_reads values question.variables);
       }
 
-  kept_above : (m : List ℕ) (zs : List ℤ) → AllByRecursion (λ z. is_true m z ≡ true) (fixed_up_to values v) → AllByRecursion (Names v) zs → AllByRecursion (λ z. reads values z ≡ True) zs → AllByRecursion (λ z. is_true m z ≡ true) zs
+  kept_above : (m : List ℕ) (zs : List ℤ) → AllByRecursion (λ z. is_true m z ≡ true) (fixed_up_to values question.variables) → AllByRecursion (Names question.variables) zs → AllByRecursion (λ z. reads values z ≡ True) zs →
+      AllByRecursion (λ z. is_true m z ≡ true) zs
   kept_above m [] k n r = tt
-  kept_above m (z ∷ zs) k n r = (fixed_has values (λ y. is_true m y ≡ true) v k z n.0 r.0, kept_above m zs k n.1 r.1)
+  kept_above m (z ∷ zs) k n r = (fixed_has values (λ y. is_true m y ≡ true) question.variables k z n.0 r.0, kept_above m zs k n.1 r.1)
 
-  pub from_below : AllByRecursion (Names v) assumed → (m : List ℕ) → Models v formula (fixed_up_to values v) m → Models v formula assumed m
-  from_below n m s = record { size = s.size; bits = s.bits; clauses = s.clauses; kept = kept_above m assumed s.kept n fixed.keeps }
+  from_below : AllByRecursion (Names question.variables) question.assumed.now → (m : List ℕ) → Models question.variables question.formula.now (fixed_up_to values question.variables) m →
+      Models question.variables question.formula.now question.assumed.now m
+  from_below n m s = record { size = s.size; bits = s.bits; clauses = s.clauses; kept = kept_above m question.assumed.now s.kept n fixed.keeps }
 
 -- the answer to the question below is one to the question
 truth_above : (v : ℕ) (formula assumed listed : List ℤ) (front : List ℕ) (r : Result Verdict Refusal) →
@@ -72,19 +74,23 @@ truth_above v formula assumed listed front (Ok Yes) to from t = from front t
 truth_above v formula assumed listed front (Ok No) to from t = (t.0, λ m s. t.1 m (to m s))
 truth_above v formula assumed listed front (Err e) to from t = t
 
-module _ {S : Type 0} (largest tally : S → ℕ) (v : ℕ) (formula assumed listed : List ℤ) (before after : S) (was is : List ℕ) (r : Result Verdict Refusal) where
-  -- the solver below takes the question, and answers it as it was put
-  pub answered_below : Taken (min 1024 (largest before)) v formula assumed (length was) → Lists v formula assumed listed → Solved largest tally v formula listed before after was is r →
-      Answered largest tally v formula assumed before after was is r
-  answered_below taken lists solved =
-      let names = formed_names v formula assumed taken.formed v (omega arith) in
-      let listing = subst (AllByRecursion (Names v)) (sym lists.exact) (fixed_names lists.values v v (omega arith)) in
+module _ {S : Type 0} (largest tally : S → ℕ) (question : Question) (before after : S) (was is : List ℕ) (r : Result Verdict Refusal) where
+  -- the solver below takes the question with the list of what is fixed, and answers it as it was put
+  exactly_below : Taken (min LARGEST (largest before)) question.variables question.formula.now question.assumed.now (length was) →
+      (values : List Value) → Fixed question.variables question.formula.now question.assumed.now values →
+      Solved largest tally question.variables question.formula.now (fixed_up_to values question.variables) before after was is r →
+      Answered largest tally question.variables question.formula.now question.assumed.now before after was is r
+  exactly_below taken values fixed solved =
+      let v = question.variables in
+      let formula = question.formula.now in
+      let listed = fixed_up_to values v in
+      let listing = fixed_names values v v (omega arith) in
       let answer =
       solved.answered (none_from_taken (largest before) v formula listed (length was) (record {
         small = omega (arith, taken.small);
         formed =
-            and_from (closed formula) (within v formula && (within v listed && literals listed)) (formed_closed v formula assumed taken.formed)
-            (and_from (within v formula) (within v listed && literals listed) (formed_within v formula assumed taken.formed)
+            and_from (closed formula) (within v formula && (within v listed && literals listed)) (formula_closed question taken.formed)
+            (and_from (within v formula) (within v listed && literals listed) (formula_within question taken.formed)
             (and_from (within v listed) (literals listed) (within_from_names v listed listing) (literals_from_names v listed listing)));
         fits = taken.fits;
       })) in
@@ -92,12 +98,17 @@ module _ {S : Type 0} (largest tally : S → ℕ) (v : ℕ) (formula assumed lis
         bound = answer.bound;
         count = answer.count;
         truth =
-            truth_above v formula assumed listed (take v is) r
-            (λ m s. subst (λ l. Models v formula l m) (sym lists.exact) (to_below v formula assumed lists.values lists.fixed m s))
-            (λ m s. from_below v formula assumed lists.values lists.fixed names m (subst (λ l. Models v formula l m) lists.exact s))
-            answer.truth;
+            truth_above v formula question.assumed.now listed (take v is) r (to_below question values fixed)
+            (from_below question values fixed (assumed_name question taken.formed v (omega arith))) answer.truth;
         behind = answer.behind;
       }
+
+  pub answered_below : (listed : List ℤ) → Taken (min LARGEST (largest before)) question.variables question.formula.now question.assumed.now (length was) → Lists question.variables question.formula.now question.assumed.now listed →
+      Solved largest tally question.variables question.formula.now listed before after was is r →
+      Answered largest tally question.variables question.formula.now question.assumed.now before after was is r
+  answered_below listed taken lists solved =
+      exactly_below taken lists.values lists.fixed
+      (subst (λ (l : List ℤ). Solved largest tally question.variables question.formula.now l before after was is r) lists.exact solved)
 
 -- an answered question meets the whole promise of `solve`
 pub solved_answered : {S : Type 0} (largest tally : S → ℕ) (v : ℕ) (formula assumed : List ℤ) (before after : S) (was is : List ℕ) (r : Result Verdict Refusal) →
@@ -105,6 +116,6 @@ pub solved_answered : {S : Type 0} (largest tally : S → ℕ) (v : ℕ) (formul
     Solved largest tally v formula assumed before after was is r
 solved_answered largest tally v formula assumed before after was is r none answer =
     record {
-      refused = λ e some. let z : ◌≡◌ {A = ℕ} 0 1 = cc in absurd (omega arith);
+      refused = λ e some. cc;
       answered = λ _. answer;
     }

@@ -1,11 +1,12 @@
 -- One forced literal made true: what is kept, what is implied, and that fewer variables are open.
-use Rattle.std.proofs.Common.{◌≡◌, ℕ, ◌<◌, true, List, length, get_or, set, ℤ, pos, negsuc, arith}
+use Rattle.std.proofs.Common.{◌≡◌, ℕ, ◌+◌, ◌<◌, true, List, length, get_or, set, ℤ, pos, negsuc, Some, arith}
 use Rattle.std.specs.List.{AllByRecursion}
 use Rattle.std.proofs.ByRecursion.{all-has}
 use Rattle.sat.specs.Formula.{variable, satisfied, clauses_of, within}
 use Rattle.scan.specs.Values.{reads, truth, Agrees, opens}
 use Rattle.scan.specs.Rounds.{Finds}
-use Rattle.scan.specs.declared.round.Found.TheVariants.{Forced}
+use Rattle.scan.specs.declared.round.Telling.TheVariants.{Forced}
+use Rattle.scan.specs.declared.values.TheConstants.{LARGEST}
 use Rattle.scan.specs.declared.value.Value.{Value}
 use Rattle.scan.specs.declared.value.Value.TheVariants.{Open, True}
 use Rattle.scan.proofs.Agreement.{agrees_assign, forced_holds}
@@ -14,8 +15,8 @@ use Rattle.scan.proofs.Finding.{forced_names}
 use Rattle.scan.proofs.Literals.{slot_open, set_keeps}
 
 truth-closed : (z : ℤ) → truth z ≡ Open → ⊥
-truth-closed (pos n) e = let k : ◌≡◌ {A = ℕ} 0 1 = cc in omega arith
-truth-closed (negsuc n) e = let k : ◌≡◌ {A = ℕ} 0 1 = cc in omega arith
+truth-closed (pos n) e = cc
+truth-closed (negsuc n) e = cc
 
 -- every model of the clauses that agrees with the one agrees with the other
 abbrev pub Implies : List ℤ → (before after : List Value) → Type 0
@@ -25,9 +26,9 @@ Implies formula before after = (m : List ℕ) → AllByRecursion (λ clause. sat
 abbrev pub Keeps : (before after : List Value) → Type 0
 Keeps before after = (z : ℤ) → reads before z ≡ True → reads after z ≡ True
 
-module _ (formula : List ℤ) (values : List Value) (z : ℤ) (size : length values ≡ 1025) (w : within 1024 formula ≡ true) (found : Finds values (clauses_of formula) (Forced z)) where
+module _ (formula : List ℤ) (values : List Value) (z : ℤ) (size : length values ≡ LARGEST + 1) (w : within LARGEST formula ≡ true) (found : Finds values (clauses_of formula) (Some (Forced z))) where
   was_open : get_or values (variable z) Open ≡ Open
-  was_open = let n = forced_names 1024 formula values z w found in slot_open values z n.0.0 n.1
+  was_open = let n = forced_names LARGEST formula values z w found in slot_open values z n.0.0 n.1
 
   pub forced_keeps : (before : List Value) → Keeps before values → Keeps before (set values (variable z) (truth z))
   forced_keeps before k y t = set_keeps values (variable z) (truth z) y was_open (k y t)
@@ -39,6 +40,6 @@ module _ (formula : List ℤ) (values : List Value) (z : ℤ) (size : length val
 
   pub forced_falls : opens (set values (variable z) (truth z)) < opens values
   forced_falls =
-      let n = forced_names 1024 formula values z w found in
+      let n = forced_names LARGEST formula values z w found in
       let h : variable z < length values = omega (arith, n.0.1) in
       omega (arith, opens_close values (variable z) (truth z) h was_open (truth-closed z))

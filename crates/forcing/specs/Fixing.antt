@@ -1,26 +1,28 @@
 -- What forcing makes of a partial valuation, and what it fixes of a question.
-use Rattle.std.specs.Prelude.{◌≡◌, ℕ, ◌≤◌, Bool, true, cond, List, length, take, ℤ, Some, None, Option}
+use Rattle.std.specs.Prelude.{◌≡◌, ℕ, Bool, true, if◌then◌else◌, List, ℤ, Some, None, Option}
 use Rattle.std.specs.List.{AllByRecursion}
 use Rattle.sat.specs.Formula.{satisfied, clauses_of}
 use Rattle.sat.specs.Question.{Models}
+use Rattle.sat.specs.declared.question.Question.{Question}
 use Rattle.scan.specs.Values.{reads, Agrees}
 use Rattle.scan.specs.Rounds.{Finds}
-use Rattle.scan.specs.declared.round.Found.TheVariants.{Nothing, Conflict}
+use Rattle.scan.specs.declared.round.Telling.TheVariants.{Conflict}
 use Rattle.scan.specs.declared.value.Value.{Value}
 use Rattle.scan.specs.declared.value.Value.TheVariants.{True}
+use Rattle.arrayvec.specs.ArrayVec.{ArrayVec}
 use Rattle.forcing.specs.Listing.{fixed_up_to}
 
 -- forcing has ended: true literals stay true, what is fixed is implied by the clauses, and no clause tells more, or one is all false
 pub record Forces (formula : List ℤ) (before after : List Value) (quiet : Bool) : Type 0 where
   pub keeps : (z : ℤ) → reads before z ≡ True → reads after z ≡ True
   pub implies : (m : List ℕ) → AllByRecursion (λ clause. satisfied m clause ≡ true) (clauses_of formula) → Agrees before m → Agrees after m
-  pub ended : Finds after (clauses_of formula) (cond quiet Nothing Conflict)
+  pub ended : Finds after (clauses_of formula) (if quiet then None else Some Conflict)
 
 -- what is fixed of a question: every assumed literal, and only what holds in every model; no clause tells more of it
 pub record Fixed (v : ℕ) (formula assumed : List ℤ) (values : List Value) : Type 0 where
   pub keeps : AllByRecursion (λ z. reads values z ≡ True) assumed
   pub implied : (m : List ℕ) → Models v formula assumed m → Agrees values m
-  pub ended : Finds values (clauses_of formula) Nothing
+  pub ended : Finds values (clauses_of formula) None
 
 -- a list of all that is fixed of a question, each variable once
 pub record Lists (v : ℕ) (formula assumed listed : List ℤ) : Type 0 where
@@ -28,7 +30,7 @@ pub record Lists (v : ℕ) (formula assumed listed : List ℤ) : Type 0 where
   pub fixed : Fixed v formula assumed values
   pub exact : listed ≡ fixed_up_to values v
 
--- so many numbers of the room are that list, or else the question has no model
-abbrev pub Fixes : (v : ℕ) (formula assumed room : List ℤ) → Option ℕ → Type 0
-Fixes v formula assumed room None = (m : List ℕ) → Models v formula assumed m → ⊥
-Fixes v formula assumed room (Some count) = (count ≤ length room) × Lists v formula assumed (take count room)
+-- the list is of all that is fixed of the question, and where there is none the question has no model
+abbrev pub Fixes : Question → Option (ArrayVec ℤ) → Type 0
+Fixes question None = (m : List ℕ) → Models question.variables question.formula.now question.assumed.now m → ⊥
+Fixes question (Some listed) = Lists question.variables question.formula.now question.assumed.now listed.items

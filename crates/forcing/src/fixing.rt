@@ -1,17 +1,20 @@
 // Fixing what assumed literals force.
-ghost use Rattle.std.specs.Prelude.{◌≡◌, ◌≤◌, true, length, drop};
-ghost use Rattle.std.specs.Option.{unwrap_or};
+ghost use Rattle.std.specs.Prelude.{◌≡◌, ◌+◌, ◌≤◌, true, length};
 ghost use Rattle.sat.specs.Formula.{within};
 ghost use Rattle.sat.specs.Question.{well_formed};
 ghost use Rattle.forcing.specs.Fixing.{Forces, Fixes};
 
-use crate::listing::list;
-use scan::{Found, Values, look_around};
+use crate::listing::fixed_literals;
+use arrayvec::ArrayVec;
+use sat::Question;
+use scan::{LARGEST, Telling, Values, look_around};
 
 // Makes the last open literal of a clause true whose others are false, until no clause tells anything more,
 // and says whether none is all false. Each look begins where the last one stopped.
+// `slots` holds of every partial valuation, but behind a reference the type alone does not tell it.
 fn force(values: &mut Values, formula: &[i16]) -> bool
-    requires { within 1024 formula.now ≡ true }
+    requires slots { length values.old.slots ≡ LARGEST + 1 }
+    requires bounded { within LARGEST formula.now ≡ true }
     ensures { Forces formula.now values.old.slots values.new.slots result }
 {
     let mut place = 0;
@@ -19,33 +22,22 @@ fn force(values: &mut Values, formula: &[i16]) -> bool
         let round = look_around(values, formula, place);
         place = round.next;
         match round.found {
-            Found::Nothing => return true,
-            Found::Conflict => return false,
-            Found::Forced(literal) => values.assign(literal),
+            None => return true,
+            Some(Telling::Conflict) => return false,
+            Some(Telling::Forced(literal)) => values.assign(literal),
         }
     }
 }
 
-// Lists the fixed literals in front of the room, and says how many there are;
-// none where assumed literals are opposed or a clause is all false.
-pub(crate) fn fix(
-    variables: usize,
-    formula: &[i16],
-    assumed: &[i16],
-    room: &mut [i16],
-) -> Option<usize>
-    requires small { variables ≤ 1024 }
-    requires fits { variables ≤ length room.old }
-    requires formed { well_formed variables formula.now assumed.now ≡ true }
-    ensures fixes { Fixes variables formula.now assumed.now room.new result }
-    ensures behind { drop (unwrap_or result 0) room.new ≡ drop (unwrap_or result 0) room.old }
+// The literals that are fixed, or None where assumed literals are opposed or a clause is all false.
+pub(crate) fn fix(question: Question<'_>) -> Option<ArrayVec<i16, LARGEST>>
+    requires small { question.variables ≤ LARGEST }
+    requires formed { well_formed question.variables question.formula.now question.assumed.now ≡ true }
+    ensures { Fixes question.entry result }
 {
     let mut values = Values::new();
-    if !values.assume(assumed) {
-        return None;
-    }
-    if force(&mut values, formula) {
-        Some(list(&values, variables, room))
+    if values.assume(question.assumed) && force(&mut values, question.formula) {
+        Some(fixed_literals(&values, question.variables))
     } else {
         None
     }

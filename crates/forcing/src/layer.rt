@@ -2,9 +2,8 @@
 ghost use Rattle.std.specs.Prelude.{◌≡◌, min};
 
 use crate::fixing::fix;
-use sat::{Refusal, Solver, Verdict, judge};
-
-const LARGEST: usize = 1024;
+use sat::{Question, Refusal, Solver, Verdict};
+use scan::LARGEST;
 
 #[derive(Drop)]
 pub struct Forcing<S> {
@@ -29,7 +28,9 @@ impl<S> Forcing<S> {
 }
 
 impl<S: Solver> Solver for Forcing<S> {
-    ghost largest = { λ s. min 1024 (S.Solver.largest s.below) };
+    ghost use Rattle.scan.specs.declared.values.TheConstants.{LARGEST};
+
+    ghost largest = { λ s. min LARGEST (S.Solver.largest s.below) };
 
     ghost tally = { λ s. s.tally };
 
@@ -41,26 +42,19 @@ impl<S: Solver> Solver for Forcing<S> {
         self.tally
     }
 
-    fn solve(
-        &mut self,
-        variables: usize,
-        formula: &[i16],
-        assumed: &[i16],
-        valuation: &mut [u8],
-    ) -> Result<Verdict, Refusal> {
-        let largest = self.largest();
-        if let Some(refusal) = judge(largest, variables, formula, assumed, valuation.len()) {
-            return Err(refusal);
-        }
+    fn solve(&mut self, question: Question<'_>, valuation: &mut [u8]) -> Result<Verdict, Refusal> {
+        question.judge(self.largest(), valuation.len())?;
         self.tally = self.tally.wrapping_add(1);
-        let mut room = [0; LARGEST];
-        match fix(variables, formula, assumed, &mut room) {
-            Some(count) => self
-                .below
-                .solve(variables, formula, &room[0..count], valuation),
+        match fix(question) {
+            Some(fixed) => self.below.solve(
+                Question {
+                    assumed: &fixed,
+                    ..question
+                },
+                valuation,
+            ),
             None => {
-                let values = &mut valuation[0..variables];
-                values.fill(0);
+                valuation[..question.variables].fill(0);
                 Ok(Verdict::No)
             }
         }

@@ -1,16 +1,15 @@
 -- Reading a netlist line by line into a blank board.
-use Rattle.std.proofs.Common.{◌≡◌, ℕ, ◌+◌, ◌<◌, ◌≤◌, true, false, List, [], ◌∷◌, ◌++◌, map, length, is_some, Some, None, Ok, Err, Option, Result, sym, refl, ap, ◌∙◌, subst, append_assoc, add-zero, arith, length-append}
+use Rattle.std.proofs.Common.{◌≡◌, ℕ, ◌+◌, ◌≤◌, List, [], ◌∷◌, ◌++◌, map, length, None, Ok, Err, Result, sym, refl, ap, ◌∙◌, subst, append_assoc, add-zero, arith}
 use Rattle.std.proofs.lemmas.List.{flat_map_more, length_push}
 use Rattle.std.proofs.lemmas.Bool.{false≢true}
 use Rattle.std.specs.List.{flat_map}
 use Rattle.board.specs.Held.{Held, blank, judged, changed, after, after_all, unless_refused}
 use Rattle.netlist.specs.Lines.{Line, BoardLine, NetLine, LockLine, render, MayStand, edit_of}
-use Rattle.netlist.specs.Place.{rest, Stands, Acts}
+use Rattle.netlist.specs.Place.{rest, Acts}
 use Rattle.netlist.specs.Reads.{Placed, Accepted, Stops, Reading, Reads}
 use Rattle.netlist.specs.declared.fault.Fault.{Fault}
 use Rattle.netlist.specs.declared.fault.Fault.TheVariants.{TooLong, NoForm, Declined}
 use Rattle.netlist.specs.declared.reader.Reader.{Reader}
-use Rattle.netlist.proofs.Parts.{render_some}
 
 placed_push : (place : ℕ) (ls : List Line) (l : Line) → Placed place ls → MayStand (place + length ls) l → Placed place (ls ++ l ∷ [])
 placed_push place [] l p m = (subst (λ n. MayStand n l) (add-zero place) m, tt)
@@ -63,98 +62,82 @@ pub record Sofar (text : List ℕ) (here : Reader) (held : Held) : Type 0 where
   pub holds : held ≡ after_all blank (map edit_of lines)
   pub line : here.line ≡ length lines + 1
 
--- and it is at the start, or more text is left
-pub record Going (text : List ℕ) (here : Reader) (held : Held) : Type 0 where
+-- and one line at least
+pub record Begun (text : List ℕ) (here : Reader) (held : Held) : Type 0 where
   pub sofar : Sofar text here held
-  pub more : rest here ≡ [] → length sofar.lines ≡ 0
+  pub some : 1 ≤ length sofar.lines
 
-pub none_read : (text : List ℕ) (here : Reader) (held : Held) → rest here ≡ text → here.line ≡ 1 → held ≡ blank → Going text here held
-none_read text here held r l h = record { sofar = record { lines = []; written = sym r; placed = tt; accepted = tt; holds = h; line = l }; more = λ _. refl }
+abbrev pub none_read : {text : List ℕ} {here : Reader} {held : Held} → rest here ≡ text → here.line ≡ 1 → held ≡ blank → Sofar text here held
+none_read r l h = record { lines = []; written = sym r; placed = tt; accepted = tt; holds = h; line = l }
 
 at_line : {text : List ℕ} {here : Reader} {held : Held} (sofar : Sofar text here held) (l : Line) → MayStand here.line l → MayStand (length sofar.lines + 1) l
 at_line sofar l m = subst (λ n. MayStand n l) sofar.line m
 
 module _ {text : List ℕ} {here next : Reader} {held : Held} (sofar : Sofar text here held) where
-  pub one_more : (held' : Held) → Acts here held (Ok tt) next held' → (s : Sofar text next held') × (1 ≤ length s.lines)
-  one_more held' a =
+  pub one_more : {held' : Held} → Acts here held (Ok tt) next held' → Begun text next held'
+  one_more {held'} a =
       let l = a.0 in
       let g = a.1 in
       let ls = sofar.lines in
       let n : length ls + 1 ≡ 1 + length ls = omega arith in
-      let more = length_push ls l in (
-        record {
+      let more = length_push ls l in record {
+        sofar = record {
           lines = ls ++ l ∷ [];
           written = sofar.written ∙ ap (λ bs. flat_map render ls ++ bs) g.finds.1 ∙ sym (append_assoc (flat_map render ls) (render l) (rest next)) ∙ ap (λ bs. bs ++ rest next) (flat_map_more render [] ls l);
           placed = placed_push 1 ls l sofar.placed (subst (λ k. MayStand k l) n (at_line sofar l g.finds.0));
           accepted = accepted_push blank ls l sofar.accepted (ap (λ h. judged h (edit_of l)) (sym sofar.holds) ∙ a.2);
           holds = a.3 ∙ ap (λ h. after h (edit_of l)) sofar.holds ∙ sym (after_push blank ls l);
           line = omega (arith, g.line, sofar.line, more);
-        },
-        omega (arith, more),
-      )
+        };
+        some = omega (arith, more);
+      }
 
-pub fewer : (here next : Reader) (held held' : Held) → Acts here held (Ok tt) next held' → length (rest next) < length (rest here)
-fewer here next held held' a = omega (arith, ap length a.1.finds.1 ∙ length-append (render a.0) (rest next), render_some a.0)
+module _ (start : Held) {text : List ℕ} (short : length text ≤ 16384) where
+  reads : {r : Result (Unit {0}) Fault} {after : Held} → Reading start text r after → Reads start text r after
+  reads reading = record { long = λ l. absurd (omega arith); short = λ _. reading }
 
--- the text is at its end behind a line
-pub all_read : (text : List ℕ) (start : Held) (here : Reader) (held : Held) (sofar : Sofar text here held) → 1 ≤ length sofar.lines → rest here ≡ [] → Reading start text (Ok tt) held
-all_read text start here held sofar some e =
-    let ls = sofar.lines in
-    let p = sofar.placed in
-    let a = sofar.accepted in
-    record {
-      lines = ls;
-      left = rest here;
-      written = sofar.written;
-      placed = p;
-      accepted = anew_accepted blank start ls p a;
-      stops = (e, omega arith);
-      leaves = sofar.holds ∙ anew_after blank start ls some p a;
-    }
+  -- the text is at its end behind a line
+  pub all_read : {here : Reader} {held : Held} → Begun text here held → rest here ≡ [] → Reads start text (Ok tt) held
+  all_read {here} begun e =
+      let sofar = begun.sofar in
+      let ls = sofar.lines in
+      reads (record {
+        lines = ls;
+        left = rest here;
+        written = sofar.written;
+        placed = sofar.placed;
+        accepted = anew_accepted blank start ls sofar.placed sofar.accepted;
+        stops = (e, omega (arith, begun.some));
+        leaves = sofar.holds ∙ anew_after blank start ls begun.some sofar.placed sofar.accepted;
+      })
 
--- the next line is at fault
-pub fault_read : (text : List ℕ) (start : Held) (here next : Reader) (held held' : Held) (fault : Fault) → Going text here held → Acts here held (Err fault) next held' → Reading start text (Err fault) start
-fault_read text start here next held held' fault g a =
-    let ls = g.sofar.lines in
-    let p = g.sofar.placed in
-    let c = g.sofar.accepted in
-    record {
-      lines = ls;
-      left = rest here;
-      written = g.sofar.written;
-      placed = p;
-      accepted = anew_accepted blank start ls p c;
-      stops = by fault a;
-      leaves = refl;
-    }
-  where
-    by : (f : Fault) → Acts here held (Err f) next held' → Stops (after_all start (map edit_of g.sofar.lines)) (length g.sofar.lines + 1) (rest here) (Err f)
-    by TooLong b = b
-    by (NoForm n) b =
-        (b.0 ∙ g.sofar.line, (λ e. omega (arith, g.more e)), λ form behind m e. b.1.finds form behind (subst (λ k. MayStand k form) (sym g.sofar.line) m) e)
-    by (Declined n cause) b =
-        let l = b.1.0 in
-        let m = at_line g.sofar l b.1.1.finds.0 in (
-          b.0 ∙ g.sofar.line,
-          l,
-          rest next,
-          m,
-          b.1.1.finds.1,
-          sym (anew_judged blank start g.sofar.lines l g.sofar.placed g.sofar.accepted m) ∙ ap (λ h. judged h (edit_of l)) (sym g.sofar.holds) ∙ b.1.2,
-        )
-
--- a look at the place, by its test
-pub at_end : (here : Reader) (r : Option ℕ) → Stands here r → is_some r ≡ false → rest here ≡ []
-at_end here None s e = s
-at_end here (Some b) s e = absurd (false≢true (sym e))
-
-pub not_at_end : (here : Reader) (r : Option ℕ) → Stands here r → is_some r ≡ true → rest here ≡ [] → ⊥
-not_at_end here None s e n = false≢true e
-not_at_end here (Some b) s e n =
-    let d = s.1 in
-    let z : ◌≡◌ {A = ℕ} 0 1 = cc in
-    omega arith
-
--- a text of at most 16,384 bytes
-pub reads_short : (held : Held) (text : List ℕ) (r : Result (Unit {0}) Fault) (after : Held) → length text ≤ 16384 → Reading held text r after → Reads held text r after
-reads_short held text r after h reading = record { long = λ l. absurd (omega arith); short = λ _. reading }
+  -- the next line is at fault
+  pub fault_read : {here : Reader} (next : Reader) {held : Held} (held' : Held) (sofar : Sofar text here held) → (rest here ≡ [] → length sofar.lines ≡ 0) →
+      (fault : Fault) {r : Result (Unit {0}) Fault} → r ≡ Err fault → Acts here held (Err fault) next held' → Reads start text r start
+  fault_read {here} next {held} held' sofar more fault is a =
+      let ls = sofar.lines in
+      let reading : Reading start text (Err fault) start = record {
+        lines = ls;
+        left = rest here;
+        written = sofar.written;
+        placed = sofar.placed;
+        accepted = anew_accepted blank start ls sofar.placed sofar.accepted;
+        stops = by fault a;
+        leaves = refl;
+      } in
+      subst (λ r. Reads start text r start) (sym is) (reads reading)
+    where
+      by : (f : Fault) → Acts here held (Err f) next held' → Stops (after_all start (map edit_of sofar.lines)) (length sofar.lines + 1) (rest here) (Err f)
+      by TooLong b = b
+      by (NoForm n) b =
+          (b.0 ∙ sofar.line, (λ e. omega (arith, more e)), λ form behind m e. b.1.finds form behind (subst (λ k. MayStand k form) (sym sofar.line) m) e)
+      by (Declined n cause) b =
+          let l = b.1.0 in
+          let m = at_line sofar l b.1.1.finds.0 in (
+            b.0 ∙ sofar.line,
+            l,
+            rest next,
+            m,
+            b.1.1.finds.1,
+            sym (anew_judged blank start sofar.lines l sofar.placed sofar.accepted m) ∙ ap (λ h. judged h (edit_of l)) (sym sofar.holds) ∙ b.1.2,
+          )

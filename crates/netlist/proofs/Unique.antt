@@ -1,21 +1,21 @@
 -- A text has one reading: a line is given by what it is written as, and so are the lines of a text.
-use Rattle.std.proofs.Common.{◌≡◌, ℕ, ◌+◌, ◌<◌, ◌≤◌, cond, List, [], ◌∷◌, ◌++◌, map, length, is_ok, Some, None, Ok, Err, Result, sym, refl, ap, ◌∙◌, subst, ap₂, ⊎_elim, append_assoc, arith}
+use Rattle.std.proofs.Common.{◌≡◌, ℕ, ◌+◌, ◌<◌, ◌≤◌, cond, List, [], ◌∷◌, ◌++◌, map, length, get_or, is_ok, Some, None, Ok, Err, Result, sym, refl, ap, ◌∙◌, subst, ap₂, ⊎_elim, append_assoc, arith, length-append}
 use Rattle.std.proofs.lemmas.Bool.{cases_lt}
 use Rattle.std.specs.List.{flat_map}
 use Rattle.board.specs.Held.{Held, judged, after, after_all}
-use Rattle.netlist.specs.Lines.{Line, BoardLine, NetLine, LockLine, Chips, Formed, MayStand, render, edit_of}
-use Rattle.netlist.specs.Pieces.{chips}
+use Rattle.netlist.specs.Lines.{Line, BoardLine, NetLine, LockLine, Chips, Formed, MayStand, render, keyword, edit_of}
+use Rattle.netlist.specs.Pieces.{Piece, chips, form}
 use Rattle.netlist.specs.Reads.{Placed, Accepted, Stops, Reads, Alone}
 use Rattle.netlist.specs.declared.fault.Fault.{Fault}
 use Rattle.netlist.specs.declared.fault.Fault.TheVariants.{TooLong, NoForm, Declined}
 use Rattle.netlist.proofs.Listed.{no_digit, field_first}
-use Rattle.netlist.proofs.Parts.{board_parts, net_parts, lock_parts}
-use Rattle.netlist.proofs.Sequences.{Only, ◌then◌, only_both, only_byte, only_one_of, only_field}
+use Rattle.netlist.proofs.Parts.{IsMadeOf, board_form, net_form, lock_form, render_some}
+use Rattle.netlist.proofs.Sequences.{Only, only_both, only_byte, only_one_of, only_field, only_opening}
 
 chips-same : (cs ds p q : List ℕ) → Chips cs → Chips ds → chips.written cs ++ p ≡ chips.written ds ++ q → (cs ≡ ds) × (p ≡ q)
 chips-same [] [] p q g h e = (refl, (cc))
-chips-same [] (d ∷ ds) p q g h e = let z : ◌≡◌ {A = ℕ} 10 32 = cc in absurd (omega arith)
-chips-same (c ∷ cs) [] p q g h e = let z : ◌≡◌ {A = ℕ} 32 10 = cc in absurd (omega arith)
+chips-same [] (d ∷ ds) p q g h e = cc
+chips-same (c ∷ cs) [] p q g h e = cc
 chips-same (c ∷ cs) (d ∷ ds) p q g h e =
     let s = only_field.same c d (chips.written cs ++ p) (chips.written ds ++ q) (omega (arith, g.1), no_digit cs p) (omega (arith, h.1), no_digit ds q) (sym (field_first c cs p) ∙ e ∙ field_first d ds q) in
     let t = chips-same cs ds p q g.3 h.3 s.1 in
@@ -24,38 +24,32 @@ chips-same (c ∷ cs) (d ∷ ds) p q g h e =
 only_chips : Only chips
 only_chips = record { same = λ cs ds p q g h e. chips-same cs ds p q g.1 h.1 e }
 
-only_board : Only board_parts
-only_board = only_both _ _ (only_byte 66) (only_both _ _ only_field (only_both _ _ only_field (only_both _ _ only_field (only_byte 10))))
+-- lines of one letter, and what stands behind them, are given by the text
+module _ {letter : ℕ} {A : Type 0} {parts : Piece A} {line_of : A → Line} (made : IsMadeOf letter parts line_of) (only : Only parts) where
+  of_parts : (a b : Line) (p q : List ℕ) → (form letter).Fits a p → (form letter).Fits b q → render a ++ p ≡ render b ++ q → (a ≡ b) × (p ≡ q)
+  of_parts a b p q f g e =
+      let x = made.parted a p f in
+      let y = made.parted b q g in
+      let s = only.same x.0 y.0 p q x.1 y.1 (ap (λ bs. bs ++ p) (sym (ap render x.2 ∙ made.written x.0)) ∙ e ∙ ap (λ bs. bs ++ q) (ap render y.2 ∙ made.written y.0)) in
+      (x.2 ∙ ap line_of s.0 ∙ sym y.2, s.1)
 
-only_net : Only net_parts
-only_net = only_both _ _ (only_byte 78) (only_both _ _ only_field only_chips)
+of_form : (a b : Line) (p q : List ℕ) → Formed a → (form (keyword a)).Fits b q → render a ++ p ≡ render b ++ q → (a ≡ b) × (p ≡ q)
+of_form (BoardLine c k m) b p q f g = of_parts board_form (only_both only_opening (only_both only_field (only_both only_field only_byte))) (BoardLine c k m) b p q (f, refl) g
+of_form (NetLine n cs) b p q f g = of_parts net_form (only_both only_opening only_chips) (NetLine n cs) b p q (f, refl) g
+of_form (LockLine n l) b p q f g = of_parts lock_form (only_both only_opening (only_both only_byte (only_both (only_one_of _ _) only_byte))) (LockLine n l) b p q (f, refl) g
 
-only_lock : Only lock_parts
-only_lock = only_both _ _ (only_byte 76) (only_both _ _ only_field (only_both _ _ (only_byte 32) (only_both _ _ (only_one_of 65 8) (only_byte 10))))
+-- a line begins with its letter
+begins : (a : Line) (p : List ℕ) → get_or (render a ++ p) 0 0 ≡ keyword a
+begins (BoardLine c k m) p = refl
+begins (NetLine n cs) p = refl
+begins (LockLine n l) p = refl
 
 -- a line and what stands behind it are given by the text
 pub line_same : (a b : Line) (p q : List ℕ) → Formed a → Formed b → render a ++ p ≡ render b ++ q → (a ≡ b) × (p ≡ q)
-unfolding ◌then◌
-line_same (BoardLine c k m) (BoardLine c' k' m') p q f g e =
-    let s = only_board.same (tt, (c, (k, (m, tt)))) (tt, (c', (k', (m', tt)))) p q (tt, ((f.0, refl), ((f.1, refl), ((f.2, refl), tt)))) (tt, ((g.0, refl), ((g.1, refl), ((g.2, refl), tt)))) e in
-    (ap (λ t. BoardLine t.1.0 t.1.1.0 t.1.1.1.0) s.0, s.1)
-line_same (NetLine n cs) (NetLine n' cs') p q f g e =
-    let s = only_net.same (tt, (n, cs)) (tt, (n', cs')) p q (tt, ((f.0, no_digit cs p), (f.1, f.2))) (tt, ((g.0, no_digit cs' q), (g.1, g.2))) e in
-    (ap (λ t. NetLine t.1.0 t.1.1) s.0, s.1)
-line_same (LockLine n l) (LockLine n' l') p q f g e =
-    let s = only_lock.same (tt, (n, (tt, (l, tt)))) (tt, (n', (tt, (l', tt)))) p q (tt, ((f.0, refl), (tt, (f.1, tt)))) (tt, ((g.0, refl), (tt, (g.1, tt)))) e in
-    (ap (λ t. LockLine t.1.0 t.1.1.1.0) s.0, s.1)
-line_same (BoardLine c k m) (NetLine n cs) p q f g e = let z : ◌≡◌ {A = ℕ} 66 78 = cc in absurd (omega arith)
-line_same (BoardLine c k m) (LockLine n l) p q f g e = let z : ◌≡◌ {A = ℕ} 66 76 = cc in absurd (omega arith)
-line_same (NetLine n cs) (BoardLine c k m) p q f g e = let z : ◌≡◌ {A = ℕ} 78 66 = cc in absurd (omega arith)
-line_same (NetLine n cs) (LockLine n' l) p q f g e = let z : ◌≡◌ {A = ℕ} 78 76 = cc in absurd (omega arith)
-line_same (LockLine n l) (BoardLine c k m) p q f g e = let z : ◌≡◌ {A = ℕ} 76 66 = cc in absurd (omega arith)
-line_same (LockLine n l) (NetLine n' cs) p q f g e = let z : ◌≡◌ {A = ℕ} 76 78 = cc in absurd (omega arith)
+line_same a b p q f g e = of_form a b p q f (g, sym (begins b q) ∙ ap (λ bs. get_or bs 0 0) (sym e) ∙ begins a p) e
 
 no_line_in_nothing : (line : Line) (behind : List ℕ) → [] ≡ render line ++ behind → ⊥
-no_line_in_nothing (BoardLine c k m) behind e = let z : ◌≡◌ {A = ℕ} 0 1 = cc in omega arith
-no_line_in_nothing (NetLine n cs) behind e = let z : ◌≡◌ {A = ℕ} 0 1 = cc in omega arith
-no_line_in_nothing (LockLine n l) behind e = let z : ◌≡◌ {A = ℕ} 0 1 = cc in omega arith
+no_line_in_nothing line behind e = omega (arith, render_some line, ap length e ∙ length-append (render line) behind)
 
 module _ (held : Held) (place : ℕ) (left : List ℕ) where
   -- reading does not stop before a line that the board takes
@@ -66,8 +60,7 @@ module _ (held : Held) (place : ℕ) (left : List ℕ) where
   goes_on line behind (Err (Declined n cause)) m j e s =
       let same = line_same s.1 line s.2 behind s.3.0 m.0 (sym s.4 ∙ e) in
       let n : None ≡ Some cause = sym j ∙ ap (λ l. judged held (edit_of l)) (sym same.0) ∙ s.5 in
-      let z : ◌≡◌ {A = ℕ} 0 1 = cc in
-      omega arith
+      cc
 
   -- and it stops for one reason
   stops_same : (r s : Result (Unit {0}) Fault) → Stops held place left r → Stops held place left s → r ≡ s

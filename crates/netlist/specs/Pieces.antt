@@ -42,6 +42,10 @@ number = record { written = decimal; Fits = λ n behind. (n < 1000) × (digit_fi
 abbrev pub field : Piece ℕ
 field = record { written = lines.field; Fits = number.Fits }
 
+-- the letter that a line begins with, and its first number
+abbrev pub opening : ℕ → Piece ℕ
+opening letter = record { written = λ n. letter ∷ lines.field n; Fits = number.Fits }
+
 -- one chip or more and the line feed
 abbrev pub chips : Piece (List ℕ)
 chips = record { written = λ cs. flat_map lines.field cs ++ lines.line_feed; Fits = λ cs _. (1 ≤ length cs) × lines.Chips cs }

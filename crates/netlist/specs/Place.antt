@@ -1,5 +1,5 @@
 -- Where a reader stands, and what it takes from there.
-use Rattle.std.specs.Prelude.{◌≡◌, ℕ, ◌+◌, ◌<◌, cond, List, [], ◌∷◌, length, drop, is_some, Some, None, Ok, Err, Option, Result}
+use Rattle.std.specs.Prelude.{◌≡◌, ℕ, ◌+◌, cond, List, is_some, Some, None, Ok, Err, Option, Result}
 use Rattle.std.specs.Option.{option_map}
 use Rattle.board.specs.Held as board
 use Rattle.board.specs.Held.{Held, judged}
@@ -12,29 +12,26 @@ use Rattle.netlist.specs.declared.reader.Reader.{Reader}
 
 -- the text from the reader's place on
 abbrev pub rest : Reader → List ℕ
-rest reader = drop reader.at reader.text.now
+rest reader = reader.rest.now
 
--- the byte at the place, with more text behind it, or none at the end of the text
-abbrev pub Stands : Reader → Option ℕ → Type 0
-Stands reader (Some byte) = (reader.at < length reader.text.now) × (rest reader ≡ byte ∷ drop (reader.at + 1) reader.text.now)
-Stands reader None = rest reader ≡ []
-
--- the reader goes behind the piece that it finds, or else stays; its text and its line stay
-pub record Takes {A : Type 0} (piece : Piece A) (before : Reader) (r : Option A) (after : Reader) : Type 0 where
-  pub finds : Found piece (rest before) r (rest after)
-  pub stays : r ≡ None → after.at ≡ before.at
-  pub text : after.text ≡ before.text
+-- the reader finds the piece and is then behind it, or finds none; its line stays
+pub record Finds {A : Type 0} (piece : Piece A) (before : Reader) (r : Option A) (after : Reader) : Type 0 where
+  pub found : Found piece (rest before) r (rest after)
   pub line : after.line ≡ before.line
 
 -- the same, where a method tells the piece by something made from it
-abbrev pub TakesAs : {A B : Type 0} → (A → B) → Piece A → Reader → Option B → Reader → Type 0
-TakesAs {A} told piece before r after = (o : Option A) × Takes piece before o after × (r ≡ option_map told o)
+abbrev pub FindsAs : {A B : Type 0} → (A → B) → Piece A → Reader → Option B → Reader → Type 0
+FindsAs {A} told piece before r after = (o : Option A) × Finds piece before o after × (r ≡ option_map told o)
+
+-- and where it finds none, it stays
+pub record Takes {A : Type 0} (piece : Piece A) (before : Reader) (r : Option A) (after : Reader) : Type 0 where
+  pub finds : Finds piece before r after
+  pub stays : r ≡ None → rest after ≡ rest before
 
 -- the reader goes behind the line that it finds, and counts it, or else stays
 pub record GoesOn (before : Reader) (found : Option Line) (after : Reader) : Type 0 where
   pub finds : Found (line_at before.line) (rest before) found (rest after)
-  pub stays : found ≡ None → after.at ≡ before.at
-  pub text : after.text ≡ before.text
+  pub stays : found ≡ None → rest after ≡ rest before
   pub line : after.line ≡ before.line + cond (is_some found) 1 0
 
 -- the edit of the line

@@ -2,7 +2,10 @@
 ghost use Rattle.std.specs.Prelude.{◌≡◌};
 ghost use Rattle.netlist.specs.Faults.{number};
 
+use crate::notice::Notice;
 use board::Refusal;
+use std::error::Error;
+use std::fmt;
 
 #[derive(Clone, Copy, PartialEq, Eq, Debug)]
 pub enum Fault {
@@ -20,8 +23,22 @@ impl Fault {
     {
         match self {
             Fault::TooLong => 12,
-            Fault::NoForm { line: _ } => 13,
-            Fault::Declined { line: _, cause: _ } => 14,
+            Fault::NoForm { .. } => 13,
+            Fault::Declined { .. } => 14,
         }
     }
 }
+
+// A fault reads as its notice.
+impl fmt::Display for Fault {
+    ghost use Rattle.std.specs.Prelude.{Some};
+    ghost use Rattle.netlist.specs.Notices.{notice_of, notice_bytes};
+
+    ghost output = { λ fault. Some (notice_bytes (notice_of fault)) };
+
+    fn fmt<W: fmt::Write>(&self, f: &mut fmt::Formatter<W>) -> fmt::Result {
+        Notice::from(*self).fmt(f)
+    }
+}
+
+impl Error for Fault {}

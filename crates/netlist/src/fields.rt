@@ -1,6 +1,6 @@
-// The fields of a netlist line, each read from the reader's place on.
+// The fields of a netlist line, each read from the reader's place on. A byte that does not fit is left there.
 ghost use Rattle.netlist.specs.Pieces as pieces;
-ghost use Rattle.netlist.specs.Place.{Stands, Takes};
+ghost use Rattle.netlist.specs.Place.{Finds, Takes};
 
 use crate::reader::Reader;
 
@@ -8,24 +8,11 @@ use crate::reader::Reader;
 const THREE_DIGITS: u32 = 100;
 
 impl<'a> Reader<'a> {
-    // The byte at the place, or none at the end of the text.
-    pub(crate) fn peek(&self) -> Option<u8>
-        ensures { Stands self.now result }
-    {
-        if self.at < self.text.len() {
-            return Some(self.text[self.at]);
-        }
-        None
-    }
-
     // This byte.
     pub(crate) fn expect(&mut self, byte: u8) -> Option<()>
         ensures { Takes (pieces.byte byte) self.old result self.new }
     {
-        if self.peek()? != byte {
-            return None;
-        }
-        self.at += 1;
+        self.rest = self.rest.strip_prefix(&[byte])?;
         Some(())
     }
 
@@ -45,12 +32,13 @@ impl<'a> Reader<'a> {
     fn one_of(&mut self, start: u8, count: u8) -> Option<u32>
         ensures { Takes (pieces.one_of start count) self.old result self.new }
     {
-        let byte = self.peek()?;
-        if byte < start || byte - start >= count {
+        let (&byte, rest) = self.rest.split_first()?;
+        let number = byte.checked_sub(start)?;
+        if number >= count {
             return None;
         }
-        self.at += 1;
-        Some((byte - start) as u32)
+        self.rest = rest;
+        Some(u32::from(number))
     }
 
     // A decimal digit.
@@ -62,35 +50,25 @@ impl<'a> Reader<'a> {
 
     // A number of one to three digits without a leading zero.
     pub(crate) fn number(&mut self) -> Option<u32>
-        ensures { Takes pieces.number self.old result self.new }
+        ensures { Finds pieces.number self.old result self.new }
     {
-        let start = *self;
         let mut value = self.digit()?;
-        while 0 < value && value < THREE_DIGITS {
-            let Some(digit) = self.digit() else {
-                return Some(value);
-            };
+        while let Some(digit) = self.digit() {
+            // behind 0 or three digits stands no further one
+            if value == 0 || value >= THREE_DIGITS {
+                return None;
+            }
             value = 10 * value + digit;
         }
-        match self.digit() {
-            // a digit behind 0, or a fourth
-            Some(_) => {
-                *self = start;
-                None
-            }
-            None => Some(value),
-        }
+        Some(value)
     }
 
     // A space and a number.
     pub(crate) fn field(&mut self) -> Option<u32>
-        ensures { Takes pieces.field self.old result self.new }
+        ensures { Finds pieces.field self.old result self.new }
     {
-        let mut ahead = *self;
-        ahead.space()?;
-        let value = ahead.number()?;
-        *self = ahead;
-        Some(value)
+        self.space()?;
+        self.number()
     }
 
     // A letter from A to H, A being 0.

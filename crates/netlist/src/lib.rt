@@ -33,11 +33,9 @@ pub fn read(board: &mut OpenBoard, text: &[u8]) -> Result<(), Fault>
     }
     let mut reader = Reader::new(text);
     let mut fresh = OpenBoard::blank();
-    loop {
+    reader.act(&mut fresh)?;
+    while !reader.rest.is_empty() {
         reader.act(&mut fresh)?;
-        if reader.peek().is_none() {
-            break;
-        }
     }
     *board = fresh;
     Ok(())

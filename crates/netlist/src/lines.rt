@@ -12,12 +12,9 @@ impl<'a> Reader<'a> {
         ensures { Acts self.old (held_open board.old) result self.new (held_open board.new) }
     {
         let line = self.line;
-        let Some(edit) = self.next_line() else {
-            return Err(Fault::NoForm { line });
-        };
-        match board.apply(edit) {
-            Ok(()) => Ok(()),
-            Err(cause) => Err(Fault::Declined { line, cause }),
-        }
+        let edit = self.next_line().ok_or(Fault::NoForm { line })?;
+        board
+            .apply(edit)
+            .map_err(|cause| Fault::Declined { line, cause })
     }
 }

@@ -6,7 +6,7 @@ use crate::fault::Fault;
 use std::alloc::{AllocError, Global};
 use std::fmt;
 
-#[derive(Clone, Copy)]
+#[derive(Clone, Copy, PartialEq, Eq, Debug)]
 pub enum Notice {
     // a refusal that names no line
     Plain { number: u8 },
@@ -14,25 +14,27 @@ pub enum Notice {
     WithCause { number: u8, line: u32, cause: u8 },
 }
 
-impl Notice {
-    pub fn of_fault(fault: &Fault) -> Notice
-        ensures { result ≡ notice_of fault.now }
-    {
+impl From<Fault> for Notice {
+    ghost from_gives = { λ fault notice. notice ≡ notice_of fault };
+
+    fn from(fault: Fault) -> Notice {
         let number = fault.number();
         match fault {
             Fault::TooLong => Notice::Plain { number },
-            Fault::NoForm { line } => Notice::AtLine {
-                number,
-                line: *line,
-            },
-            Fault::Declined { line, cause } => Notice::WithCause {
-                number,
-                line: *line,
-                cause: cause.number(),
-            },
+            Fault::NoForm { line } => Notice::AtLine { number, line },
+            Fault::Declined { line, cause } => {
+                let cause = cause.number();
+                Notice::WithCause {
+                    number,
+                    line,
+                    cause,
+                }
+            }
         }
     }
+}
 
+impl Notice {
     // The notice as a line, with its line feed.
     pub fn print(&self, heap: Global) -> Result<String, AllocError>
         ensures { IfOk result (λ s. string_bytes s ≡ notice_bytes self.now ++ (10 ∷ [])) }

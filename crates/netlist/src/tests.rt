@@ -86,7 +86,7 @@ fn refused_board_stays(rt: HostRuntime) {
 #[test]
 fn notices(rt: HostRuntime) -> Result<(), Fail> {
     let cause = Refusal::ChipFull { chip: 2 };
-    let text = Notice::of_fault(&Fault::Declined { line: 3, cause }).print(rt.alloc())?;
+    let text = Notice::from(Fault::Declined { line: 3, cause }).print(rt.alloc())?;
     assert!(rt; text.as_str() == "refused 14 line 3 cause 6\n");
     Ok(())
 }

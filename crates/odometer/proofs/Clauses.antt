@@ -1,77 +1,67 @@
--- The test of a question against a valuation: along a formula number by number, and as `Models` has it.
-use Rattle.std.proofs.Common.{◌≡◌, ℕ, zero, suc, ◌+◌, ◌<◌, ◌≤◌, Bool, true, false, ◌&&◌, ◌||◌, List, [], ◌∷◌, length, get_or, drop, ℤ, pos, negsuc, Decides, sym, refl, ap, ◌∙◌}
-use Rattle.std.specs.List.{AllByRecursion}
-use Rattle.std.proofs.lemmas.List.{at_drop_more, at_drop_all}
-use Rattle.std.proofs.lemmas.Bool.{false≢true, and_parts, and_from}
-use Rattle.std.proofs.ByRecursion.{Decides-by_and}
+-- A formula taken clause by clause, and the test of a question as `Models` has it.
+use Rattle.std.proofs.Common.{◌≡◌, ℕ, zero, suc, ◌+◌, ◌<◌, ◌≤◌, Bool, true, false, cond, List, [], ◌∷◌, length, take, drop, position, ℤ, pos, negsuc, Some, None, refl, ap, ◌∙◌, subst, arith}
+use Rattle.std.specs.List.{AllByRecursion, list_all, position_or_len, before_first, after_first}
+use Rattle.std.proofs.lemmas.Grind.{common_steps}
+use Rattle.std.proofs.lemmas.Bool.{and_parts, and_from}
+use Rattle.std.proofs.lemmas.List.Elements.{All-from_recursion, recursion_from_All}
+use Rattle.std.proofs.lemmas.List.Sums.{AllPass-from_list_all, list_all-from_AllPass}
 use Rattle.sat.specs.Formula.{is_true, is_zero, satisfied, clauses_of, into_first, every}
 use Rattle.sat.specs.Question.{Models}
 use Rattle.odometer.specs.Candidate.{all_satisfied, answers_all}
 
-module _ (values : List ℕ) where
-  -- every clause has a true literal, where one of the first may have been seen before
-  abbrev pub all_from : Bool → List (List ℤ) → Bool
-  all_from seen [] = true
-  all_from seen (clause ∷ clauses) = (seen || satisfied values clause) && all_satisfied values clauses
+-- a literal goes into the first of the clauses behind it
+goes_first : (z : ℤ) (zs : List ℤ) → is_zero z ≡ false → clauses_of (z ∷ zs) ≡ into_first z (clauses_of zs)
+goes_first z zs e = ap (λ b. cond b ([] ∷ clauses_of zs) (into_first z (clauses_of zs))) e
 
-  pub all_from_start : (clauses : List (List ℤ)) → all_from false clauses ≡ all_satisfied values clauses
-  all_from_start [] = refl
-  all_from_start (clause ∷ clauses) = refl
+-- the first clause of a formula, and the others
+further : (z : ℤ) (zs : List ℤ) (i : ℕ) → is_zero z ≡ false → clauses_of zs ≡ take i zs ∷ clauses_of (drop (i + 1) zs) →
+    clauses_of (z ∷ zs) ≡ take (1 + i) (z ∷ zs) ∷ clauses_of (drop (1 + i + 1) (z ∷ zs))
+further z zs i e h =
+    let one : 1 + i ≡ suc i = omega arith in
+    let two : suc i + 1 ≡ suc (i + 1) = omega arith in
+    rw (one, two) (goes_first z zs e ∙ ap (into_first z) h)
 
-  pub all_from_into : (seen : Bool) (z : ℤ) (clauses : List (List ℤ)) → all_from seen (into_first z clauses) ≡ all_from (seen || is_true values z) clauses
-  all_from_into seen z [] = refl
-  all_from_into true z (clause ∷ clauses) = refl
-  all_from_into false z (clause ∷ clauses) = refl
+clauses_at : (zs : List ℤ) → position_or_len is_zero zs < length zs → clauses_of zs ≡ before_first is_zero zs ∷ clauses_of (after_first is_zero zs)
+clauses_at [] h = absurd (omega arith)
+clauses_at (pos zero ∷ zs) h = refl
+clauses_at (pos (suc n) ∷ zs) h = further (pos (suc n)) zs (position_or_len is_zero zs) refl (clauses_at zs (omega arith))
+clauses_at (negsuc n ∷ zs) h = further (negsuc n) zs (position_or_len is_zero zs) refl (clauses_at zs (omega arith))
 
-  pub all_from_literal : (seen : Bool) (z : ℤ) (numbers : List ℤ) → is_zero z ≡ false → all_from seen (clauses_of (z ∷ numbers)) ≡ all_from (seen || is_true values z) (clauses_of numbers)
-  all_from_literal seen (pos zero) numbers h = absurd (false≢true (sym h))
-  all_from_literal seen (pos (suc n)) numbers h = all_from_into seen (pos (suc n)) (clauses_of numbers)
-  all_from_literal seen (negsuc n) numbers h = all_from_into seen (negsuc n) (clauses_of numbers)
+clauses_past : (zs : List ℤ) → length zs ≤ position_or_len is_zero zs → clauses_of zs ≡ []
+clauses_past [] h = refl
+clauses_past (pos zero ∷ zs) h = absurd (omega arith)
+clauses_past (pos (suc n) ∷ zs) h = ap (into_first (pos (suc n))) (clauses_past zs (omega arith))
+clauses_past (negsuc n ∷ zs) h = ap (into_first (negsuc n)) (clauses_past zs (omega arith))
 
-  pub all_from_zero : (seen : Bool) (z : ℤ) (numbers : List ℤ) → is_zero z ≡ true → all_from seen (clauses_of (z ∷ numbers)) ≡ (seen && all_from false (clauses_of numbers))
-  all_from_zero true (pos zero) numbers h = sym (all_from_start (clauses_of numbers))
-  all_from_zero false (pos zero) numbers h = refl
-  all_from_zero seen (pos (suc n)) numbers h = absurd (false≢true h)
-  all_from_zero seen (negsuc n) numbers h = absurd (false≢true h)
+pub clauses_first : (zs : List ℤ) (i : ℕ) → position is_zero zs ≡ Some i → clauses_of zs ≡ take i zs ∷ clauses_of (drop (i + 1) zs)
+clauses_first zs i e =
+    let inside : position_or_len is_zero zs < length zs = grind (arith, common_steps) in
+    let at : position_or_len is_zero zs ≡ i = grind (arith, common_steps) in
+    subst (λ n. clauses_of zs ≡ take n zs ∷ clauses_of (drop (n + 1) zs)) at (clauses_at zs inside)
 
-  -- a loop over the formula's numbers
-  module _ (formula : List ℤ) (i : ℕ) (seen answer : Bool) (left : all_from seen (clauses_of (drop i formula)) ≡ answer) where
-    pub at_literal : (got : Bool) → i < length formula → is_zero (get_or formula i (pos 0)) ≡ false → got ≡ (seen || is_true values (get_or formula i (pos 0))) → all_from got (clauses_of (drop (i + 1) formula)) ≡ answer
-    at_literal got h e g =
-        let s = at_drop_more (λ zs. all_from seen (clauses_of zs)) formula i (pos 0) h in
-        let t = all_from_literal seen (get_or formula i (pos 0)) (drop (i + 1) formula) e in
-        ap (λ b. all_from b (clauses_of (drop (i + 1) formula))) g ∙ (sym t ∙ (sym s ∙ left))
+pub clauses_none : (zs : List ℤ) → position is_zero zs ≡ None → clauses_of zs ≡ []
+clauses_none zs e = clauses_past zs (grind (arith, common_steps))
 
-    pub at_zero : (got : Bool) → i < length formula → is_zero (get_or formula i (pos 0)) ≡ true → seen ≡ true → got ≡ false → all_from got (clauses_of (drop (i + 1) formula)) ≡ answer
-    at_zero got h e y g =
-        let s = at_drop_more (λ zs. all_from seen (clauses_of zs)) formula i (pos 0) h in
-        let t = all_from_zero seen (get_or formula i (pos 0)) (drop (i + 1) formula) e in
-        let u = ap (λ b. b && all_from false (clauses_of (drop (i + 1) formula))) y in
-        ap (λ b. all_from b (clauses_of (drop (i + 1) formula))) g ∙ (sym u ∙ (sym t ∙ (sym s ∙ left)))
+-- the tests say what `Models` says
+module _ {A : Type 0} (test : A → Bool) (xs : List A) where
+  all_from_test : list_all test xs ≡ true → AllByRecursion (λ x. test x ≡ true) xs
+  all_from_test e = recursion_from_All (λ x. test x ≡ true) xs (AllPass-from_list_all test xs e)
 
-    pub at_unseen : i < length formula → is_zero (get_or formula i (pos 0)) ≡ true → seen ≡ false → false ≡ answer
-    at_unseen h e n =
-        let s = at_drop_more (λ zs. all_from seen (clauses_of zs)) formula i (pos 0) h in
-        let t = all_from_zero seen (get_or formula i (pos 0)) (drop (i + 1) formula) e in
-        let u = ap (λ b. b && all_from false (clauses_of (drop (i + 1) formula))) n in
-        sym u ∙ (sym t ∙ (sym s ∙ left))
-
-    pub at_end : length formula ≤ i → true ≡ answer
-    at_end h = let s = at_drop_all (λ zs. all_from seen (clauses_of zs)) formula i h in sym s ∙ left
-
-  -- the tests say what `Models` says
-  pub decides_kept : (zs : List ℤ) → Decides (every (is_true values) zs) (AllByRecursion (λ z. is_true values z ≡ true) zs)
-  decides_kept = Decides-by_and (is_true values) (λ z. is_true values z ≡ true) (every (is_true values)) (λ z. ((λ e. e), (λ e. e))) refl (λ _ _. refl)
-
-  pub decides_clauses : (clauses : List (List ℤ)) → Decides (all_satisfied values clauses) (AllByRecursion (λ clause. satisfied values clause ≡ true) clauses)
-  decides_clauses = Decides-by_and (satisfied values) (λ clause. satisfied values clause ≡ true) (all_satisfied values) (λ _. ((λ e. e), (λ e. e))) refl (λ _ _. refl)
+  test_from_all : AllByRecursion (λ x. test x ≡ true) xs → list_all test xs ≡ true
+  test_from_all h = list_all-from_AllPass test xs (All-from_recursion (λ x. test x ≡ true) xs h)
 
 module _ (v : ℕ) (formula assumed : List ℤ) (values : List ℕ) where
   pub models_from_answers : length values ≡ v → AllByRecursion (λ byte. byte ≤ 1) values → answers_all values formula assumed ≡ true → Models v formula assumed values
   models_from_answers size bits a =
       let p = and_parts (every (is_true values) assumed) (all_satisfied values (clauses_of formula)) a in
-      record { size = size; bits = bits; clauses = (decides_clauses values (clauses_of formula)).0 p.1; kept = (decides_kept values assumed).0 p.0 }
+      record {
+        size = size;
+        bits = bits;
+        clauses = all_from_test (satisfied values) (clauses_of formula) p.1;
+        kept = all_from_test (is_true values) assumed p.0;
+      }
 
   pub answers_from_models : Models v formula assumed values → answers_all values formula assumed ≡ true
   answers_from_models m =
-      and_from (every (is_true values) assumed) (all_satisfied values (clauses_of formula)) ((decides_kept values assumed).1 m.kept) ((decides_clauses values (clauses_of formula)).1 m.clauses)
+      and_from (every (is_true values) assumed) (all_satisfied values (clauses_of formula))
+      (test_from_all (is_true values) assumed m.kept) (test_from_all (satisfied values) (clauses_of formula) m.clauses)

@@ -1,7 +1,7 @@
 -- Bytes 0 and 1 as a number: the number after it, and the one list of a length that writes it.
 use Rattle.std.proofs.Common.{◌≡◌, ℕ, zero, suc, ◌+◌, ◌-◌, ◌^◌, ◌<◌, ◌≤◌, true, false, List, [], ◌∷◌, ◌++◌, length, get_or, take, drop, set, replicate, ℤ, sym, refl, ap, ◌∙◌, subst, ⊎_elim, pow-suc, arith}
 use Rattle.std.specs.List.{AllByRecursion}
-use Rattle.std.proofs.lemmas.List.{append_assoc, take_more_set, drop-set-lt, set_split, at_drop_more}
+use Rattle.std.proofs.lemmas.List.{set_split, at_drop_more}
 use Rattle.std.proofs.lemmas.Bool.{both_ways, cases_lt}
 use Rattle.sat.specs.Question.{Models}
 use Rattle.odometer.specs.Candidate.{answers_all}
@@ -70,24 +70,7 @@ value_same (x ∷ xs) (y ∷ ys) h k l e =
 at_zero : {Y : Type 0} (F : List ℕ → Y) (byte : ℕ) (bytes : List ℕ) → byte ≡ 0 → F (byte ∷ bytes) ≡ F (0 ∷ bytes)
 at_zero F byte bytes e = ap (λ b. F (b ∷ bytes)) e
 
-next_at_one : (byte : ℕ) (bytes : List ℕ) → (byte ≡ 0 → ⊥) → next (byte ∷ bytes) ≡ 0 ∷ next bytes
-next_at_one zero bytes ne = absurd (ne refl)
-next_at_one (suc n) bytes ne = refl
-
-zero_at_one : (byte : ℕ) (bytes : List ℕ) → (byte ≡ 0 → ⊥) → has_zero (byte ∷ bytes) ≡ has_zero bytes
-zero_at_one zero bytes ne = absurd (ne refl)
-zero_at_one (suc n) bytes ne = refl
-
 module _ (bytes : List ℕ) (i : ℕ) (h : i < length bytes) where
-  pub next_carries : (get_or bytes i 0 ≡ 0 → ⊥) → take (i + 1) (set bytes i 0) ++ next (drop (i + 1) (set bytes i 0)) ≡ take i bytes ++ next (drop i bytes)
-  next_carries ne =
-      let s = at_drop_more next bytes i 0 h in
-      let t = next_at_one (get_or bytes i 0) (drop (i + 1) bytes) ne in
-      let u = take_more_set bytes i 0 h in
-      let w = drop-set-lt (i + 1) bytes i 0 (omega arith) in
-      let x = append_assoc (take i bytes) (0 ∷ []) (next (drop (i + 1) bytes)) in
-      cc
-
   pub next_stops : get_or bytes i 0 ≡ 0 → set bytes i 1 ≡ take i bytes ++ next (drop i bytes)
   next_stops e =
       let s = at_drop_more next bytes i 0 h in
@@ -96,67 +79,56 @@ module _ (bytes : List ℕ) (i : ℕ) (h : i < length bytes) where
       let w : suc i ≡ i + 1 = omega arith in
       cc
 
-  pub zero_later : (get_or bytes i 0 ≡ 0 → ⊥) → has_zero (drop (i + 1) (set bytes i 0)) ≡ has_zero (drop i bytes)
-  zero_later ne =
-      let s = at_drop_more has_zero bytes i 0 h in
-      let t = zero_at_one (get_or bytes i 0) (drop (i + 1) bytes) ne in
-      let w = drop-set-lt (i + 1) bytes i 0 (omega arith) in
-      cc
+-- where the count stands at these bytes: each is 0 or 1, and no valuation that writes a smaller number answers the question
+pub record Tried (formula assumed : List ℤ) (bytes : List ℕ) : Type 0 where
+  pub bits : Bits bytes
+  pub below : (values : List ℕ) → Models (length bytes) formula assumed values → value values < value bytes → ⊥
 
-  pub zero_here : get_or bytes i 0 ≡ 0 → true ≡ has_zero (drop i bytes)
-  zero_here e =
-      let s = at_drop_more has_zero bytes i 0 h in
-      let t = at_zero has_zero (get_or bytes i 0) (drop (i + 1) bytes) e in
-      cc
+-- the loop begins with zeros
+pub tried_zeros : (formula assumed : List ℤ) (bytes : List ℕ) (n : ℕ) → bytes ≡ replicate n 0 → Tried formula assumed bytes
+tried_zeros formula assumed bytes n e = record {
+  bits = subst Bits (sym e) (bits_zeros n);
+  below = λ values m h. let z : value bytes ≡ 0 = ap value e ∙ value_zeros n in omega arith;
+}
 
--- no valuation that writes a number below n answers the question
-abbrev pub Tried : (v : ℕ) (formula assumed : List ℤ) (n : ℕ) → Type 0
-Tried v formula assumed n = (values : List ℕ) → Models v formula assumed values → value values < n → ⊥
+module _ (formula assumed : List ℤ) (bytes : List ℕ) (tried : Tried formula assumed bytes) (fails : answers_all bytes formula assumed ≡ false) where
+  -- the bytes themselves are no answer either
+  up_to : (values : List ℕ) → Models (length bytes) formula assumed values → value values < value bytes + 1 → ⊥
+  up_to values m h =
+      let sizes = m.size in
+      ⊎_elim
+      (λ less. tried.below values m less)
+      (λ same.
+      let e : values ≡ bytes = value_same values bytes m.bits tried.bits sizes (omega arith) in
+      let a = answers_from_models (length bytes) formula assumed values m in
+      both_ways (answers_all bytes formula assumed) fails (rw e at a))
+      (cases_lt (value values) (value bytes))
 
--- one number more is tried
-pub tried_more : (v : ℕ) (formula assumed : List ℤ) (bytes : List ℕ) → length bytes ≡ v → Bits bytes →
-    answers_all bytes formula assumed ≡ false → Tried v formula assumed (value bytes) → Tried v formula assumed (value bytes + 1)
-tried_more v formula assumed bytes size bits fails tried values m h =
-    let sizes = m.size in
-    ⊎_elim
-    (λ below. tried values m below)
-    (λ above.
-    let same : values ≡ bytes = value_same values bytes m.bits bits (omega arith) (omega arith) in
-    let a = answers_from_models v formula assumed values m in
-    both_ways (answers_all bytes formula assumed) fails (rw same at a))
-    (cases_lt (value values) (value bytes))
+  -- it goes on to the next number
+  module _ (further : List ℕ) (moves : further ≡ next bytes) (more : has_zero bytes ≡ true) where
+    further_value : value further ≡ value bytes + 1
+    further_value = ap value moves ∙ value-next bytes tried.bits more
 
--- the loop over all valuations: at its start none is tried, and at its end all are
-pub tried_none : (v : ℕ) (formula assumed : List ℤ) (bytes : List ℕ) (n : ℕ) → bytes ≡ replicate n 0 → Tried v formula assumed (value bytes)
-tried_none v formula assumed bytes n e values m h =
-    let z : value bytes ≡ 0 = ap value e ∙ value_zeros n in
-    omega arith
+    further_length : length further ≡ length bytes
+    further_length = ap length moves ∙ length-next bytes
 
-module _ (bytes further : List ℕ) (bits : Bits bytes) (moves : further ≡ next bytes) (more : has_zero bytes ≡ true) where
-  further_value : value further ≡ value bytes + 1
-  further_value = ap value moves ∙ value-next bytes bits more
+    pub tried_next : Tried formula assumed further
+    tried_next = record {
+      bits = subst Bits (sym moves) (bits_next bytes tried.bits);
+      below = λ values m h. up_to values (subst (λ n. Models n formula assumed values) further_length m) (let e = further_value in omega arith);
+    }
 
-  further_length : length further ≡ length bytes
-  further_length = ap length moves ∙ length-next bytes
+    pub falls : 2 ^ length further - value further < 2 ^ length bytes - value bytes
+    falls =
+        let e : 2 ^ length further ≡ 2 ^ length bytes = ap (λ n. 2 ^ n) further_length in
+        let f = further_value in
+        let b = value_below bytes tried.bits in
+        omega arith
 
-  pub tried_next : (formula assumed : List ℤ) → answers_all bytes formula assumed ≡ false → Tried (length bytes) formula assumed (value bytes) → Tried (length further) formula assumed (value further)
-  tried_next formula assumed fails tried =
-      let t = tried_more (length bytes) formula assumed bytes refl bits fails tried in
-      let u : Tried (length bytes) formula assumed (value further) = subst (Tried (length bytes) formula assumed) (sym further_value) t in
-      subst (λ v. Tried v formula assumed (value further)) (sym further_length) u
-
-  pub falls : 2 ^ length further - value further < 2 ^ length bytes - value bytes
-  falls =
-      let e : 2 ^ length further ≡ 2 ^ length bytes = ap (λ n. 2 ^ n) further_length in
-      let f = further_value in
-      let b = value_below bytes bits in
-      omega arith
-
-pub tried_last : (v : ℕ) (formula assumed : List ℤ) (bytes : List ℕ) → length bytes ≡ v → Bits bytes → answers_all bytes formula assumed ≡ false →
-    has_zero bytes ≡ false → Tried (length bytes) formula assumed (value bytes) → (values : List ℕ) → Models v formula assumed values → ⊥
-tried_last v formula assumed bytes size bits fails last tried values m =
-    let top : value bytes + 1 ≡ 2 ^ length bytes = value_last bytes bits last in
-    let below : value values < 2 ^ length values = value_below values m.bits in
-    let same : 2 ^ length values ≡ 2 ^ length bytes = ap (λ n. 2 ^ n) (m.size ∙ sym size) in
-    let tried-v : Tried v formula assumed (value bytes) = subst (λ n. Tried n formula assumed (value bytes)) size tried in
-    tried_more v formula assumed bytes size bits fails tried-v values m (omega arith)
+  -- it ends where no number is left
+  pub none_left : has_zero bytes ≡ false → (values : List ℕ) → Models (length bytes) formula assumed values → ⊥
+  none_left last values m =
+      let top : value bytes + 1 ≡ 2 ^ length bytes = value_last bytes tried.bits last in
+      let below : value values < 2 ^ length values = value_below values m.bits in
+      let same : 2 ^ length values ≡ 2 ^ length bytes = ap (λ n. 2 ^ n) m.size in
+      up_to values m (omega arith)

@@ -1,4 +1,2 @@
-pub mod Answering
 pub mod Clauses
 pub mod Counts
-pub mod Literals

@@ -1,11 +1,11 @@
 -- Whether a valuation answers a question, as a test.
-use Rattle.std.specs.Prelude.{ℕ, Bool, true, ◌&&◌, List, [], ◌∷◌, ℤ}
+use Rattle.std.specs.Prelude.{ℕ, Bool, ◌&&◌, List, ℤ}
+use Rattle.std.specs.List.{list_all}
 use Rattle.sat.specs.Formula.{is_true, satisfied, clauses_of, every}
 
 -- every clause has a true literal
 abbrev pub all_satisfied : List ℕ → List (List ℤ) → Bool
-all_satisfied values [] = true
-all_satisfied values (clause ∷ clauses) = satisfied values clause && all_satisfied values clauses
+all_satisfied values clauses = list_all (satisfied values) clauses
 
 -- every assumed literal is true, and a literal of every clause
 abbrev pub answers_all : List ℕ → (formula assumed : List ℤ) → Bool

@@ -1,61 +1,69 @@
 // Whether one valuation answers a question.
-ghost use Rattle.std.specs.Prelude.{◌≡◌, slice_index};
-ghost use Rattle.sat.specs.Formula.{is_true, every, clauses_of};
+ghost use Rattle.std.specs.Prelude.{◌≡◌, ◌<◌, [], ◌∷◌, length, position, IfSome, IfNone};
+ghost use Rattle.std.specs.List.{list_any};
+ghost use Rattle.sat.specs.Formula.{is_true, is_zero, every, satisfied, clauses_of};
 ghost use Rattle.odometer.specs.Candidate.{all_satisfied, answers_all};
 
-fn byte_at(values: &[u8], place: usize) -> u8
-    ensures { result ≡ slice_index values.now place }
-{
-    if place < values.len() {
-        values[place]
-    } else {
-        0
-    }
-}
+use sat::Question;
 
 // The literal is true; a variable behind the bytes counts as 0.
 fn is_true(values: &[u8], z: i16) -> bool
     ensures { result ≡ is_true values.now z }
 {
-    if z == 0 {
+    let Some(place) = (z.unsigned_abs() as usize).checked_sub(1) else {
         return false;
-    }
-    let byte = byte_at(values, z.unsigned_abs() as usize - 1);
+    };
+    let byte = values.get(place).copied().unwrap_or(0);
     if z > 0 { byte == 1 } else { byte == 0 }
 }
 
 fn all_true(values: &[u8], assumed: &[i16]) -> bool
     ensures { result ≡ every (is_true values.now) assumed.now }
 {
-    for z in assumed {
-        if !is_true(values, *z) {
-            return false;
-        }
-    }
-    true
+    assumed.iter().all(|z| is_true(values, *z))
 }
 
-// Every clause has a true literal. Behind its first true literal a clause is only run on to its 0.
+fn is_satisfied(values: &[u8], clause: &[i16]) -> bool
+    ensures { result ≡ list_any (is_true values.now) clause.now }
+{
+    clause.iter().any(|z| is_true(values, *z))
+}
+
+// The place of the 0 that ends the first clause.
+fn first_end(formula: &[i16]) -> Option<usize>
+    ensures { result ≡ position is_zero formula.now }
+{
+    formula.iter().position(|z| *z == 0)
+}
+
+// The first clause, and the numbers behind its 0.
+#[tactic(auto, using(crate::proofs::Clauses::clauses_first, crate::proofs::Clauses::clauses_none, std::proofs::lemmas::Grind::common_steps))]
+fn split_clause(formula: &[i16]) -> Option<(&[i16], &[i16])>
+    ensures none { IfNone result (clauses_of formula.now ≡ []) }
+    ensures first { IfSome result (λ parts. clauses_of formula.now ≡ parts.0.now ∷ clauses_of parts.1.now) }
+    ensures shorter { IfSome result (λ parts. length parts.1.now < length formula.now) }
+{
+    let end = first_end(formula)?;
+    Some((&formula[..end], &formula[end + 1..]))
+}
+
+// Every clause has a true literal. Numbers behind the last 0 belong to no clause.
 fn all_satisfied(values: &[u8], formula: &[i16]) -> bool
     ensures { result ≡ all_satisfied values.now (clauses_of formula.now) }
 {
-    let mut satisfied = false;
-    for z in formula {
-        if *z == 0 {
-            if !satisfied {
-                return false;
-            }
-            satisfied = false;
-        } else if !satisfied {
-            satisfied = is_true(values, *z);
+    let mut rest = formula;
+    while let Some((clause, behind)) = split_clause(rest) {
+        if !is_satisfied(values, clause) {
+            return false;
         }
+        rest = behind;
     }
     true
 }
 
 // The valuation makes every assumed literal true, and a literal of every clause.
-pub fn answers(values: &[u8], formula: &[i16], assumed: &[i16]) -> bool
-    ensures { result ≡ answers_all values.now formula.now assumed.now }
+pub fn answers(question: Question<'_>, values: &[u8]) -> bool
+    ensures { result ≡ answers_all values.now question.entry.formula.now question.entry.assumed.now }
 {
-    all_true(values, assumed) && all_satisfied(values, formula)
+    all_true(values, question.assumed) && all_satisfied(values, question.formula)
 }

@@ -2,7 +2,7 @@
 ghost use Rattle.std.specs.Prelude.{◌≡◌};
 
 use crate::count::try_all;
-use sat::{Refusal, Solver, Verdict, judge};
+use sat::{Question, Refusal, Solver, Verdict};
 
 const LARGEST: usize = 16;
 
@@ -13,7 +13,7 @@ pub struct Odometer {
 
 impl Odometer {
     pub fn new() -> Odometer
-        ensures { result.tally ≡ 0 }
+        ensures { ⟦<Odometer as Solver>⟧.tally result ≡ 0 }
     {
         Odometer { tally: 0 }
     }
@@ -32,18 +32,9 @@ impl Solver for Odometer {
         self.tally
     }
 
-    fn solve(
-        &mut self,
-        variables: usize,
-        formula: &[i16],
-        assumed: &[i16],
-        valuation: &mut [u8],
-    ) -> Result<Verdict, Refusal> {
-        if let Some(refusal) = judge(LARGEST, variables, formula, assumed, valuation.len()) {
-            return Err(refusal);
-        }
+    fn solve(&mut self, question: Question<'_>, valuation: &mut [u8]) -> Result<Verdict, Refusal> {
+        question.judge(LARGEST, valuation.len())?;
         self.tally = self.tally.wrapping_add(1);
-        let values = &mut valuation[0..variables];
-        Ok(try_all(formula, assumed, values))
+        Ok(try_all(question, &mut valuation[..question.variables]))
     }
 }

@@ -1,6 +1,6 @@
 -- The valuation read off a partial one in which no variable is open.
-use Rattle.std.proofs.Common.{◌≡◌, ℕ, zero, suc, ◌<◌, ◌≤◌, true, eqb, List, [], ◌∷◌, map, length, get_or, take, drop, ℤ, pos, negsuc, refl, ap, ◌∙◌, arith}
-use Rattle.std.specs.List.{ContainsAt as Has, AllByRecursion}
+use Rattle.std.proofs.Common.{◌≡◌, ℕ, zero, suc, ◌<◌, ◌≤◌, true, eqb, List, [], ◌∷◌, map, length, get_or, take, drop, ℤ, pos, negsuc, None, refl, ap, ◌∙◌, arith}
+use Rattle.std.specs.List.{ContainsAt, AllByRecursion}
 use Rattle.std.proofs.lemmas.List.{length-map, length-take-le, length-drop, get_or-map, get_or-take, get_or-drop}
 use Rattle.std.proofs.ByRecursion.{all-has}
 use Rattle.std.proofs.lemmas.Bool.{or_left, or_right}
@@ -13,7 +13,6 @@ use Rattle.scan.specs.declared.value.Value.{Value}
 use Rattle.scan.specs.declared.value.Value.TheVariants.{Open, True, False}
 use Rattle.scan.specs.declared.clause.Standing.{Standing}
 use Rattle.scan.specs.declared.clause.Standing.TheVariants.{Undecided, Satisfied, AllFalse, Forcing}
-use Rattle.scan.specs.declared.round.Found.TheVariants.{Nothing}
 use Rattle.scan.proofs.Meaning.{judged_means}
 use Rattle.scan.proofs.Literals.{Names, slot_open, clauses_name}
 
@@ -29,7 +28,7 @@ all_bits : (values : List Value) → AllByRecursion (λ b. b ≤ 1) (map byte va
 all_bits [] = tt
 all_bits (v ∷ values) = (byte_bit v, all_bits values)
 
-has_satisfies : (m : List ℕ) (clause : List ℤ) (z : ℤ) → Has clause z → is_true m z ≡ true → satisfied m clause ≡ true
+has_satisfies : (m : List ℕ) (clause : List ℤ) (z : ℤ) → ContainsAt clause z → is_true m z ≡ true → satisfied m clause ≡ true
 has_satisfies m clause z h t = at clause h.0 h.1 (h.2 z)
   where
     at : (zs : List ℤ) (k : ℕ) → k < length zs → get_or zs k z ≡ z → satisfied m zs ≡ true
@@ -41,11 +40,11 @@ module _ (v : ℕ) (values : List Value) (room : v < length values) where
   off_length : length (take v (drop 1 values)) ≡ v
   off_length = length-take-le v (drop 1 values) (omega (arith, length-drop 1 values))
 
-  pub off_size : length (read_off v values) ≡ v
+  off_size : length (read_off v values) ≡ v
   off_size = length-map (take v (drop 1 values)) byte ∙ off_length
 
   -- the byte of a variable
-  pub off_byte : (n : ℕ) → n < v → get_or (read_off v values) n 0 ≡ byte (get_or values (suc n) Open)
+  off_byte : (n : ℕ) → n < v → get_or (read_off v values) n 0 ≡ byte (get_or values (suc n) Open)
   off_byte n h =
       get_or-map byte (take v (drop 1 values)) n Open 0 (omega (arith, off_length))
       ∙ ap byte (get_or-take v (drop 1 values) n Open h ∙ get_or-drop 1 values n Open ∙ ap (λ k. get_or values k Open) (omega arith))
@@ -62,17 +61,17 @@ module _ (v : ℕ) (values : List Value) (room : v < length values) where
 
   module _ (all : Closed v values) where
     closed_literal : (z : ℤ) → Names v z → reads values z ≡ Open → ⊥
-    closed_literal (pos zero) h e = let n : ◌≡◌ {A = ℕ} 0 1 = cc in absurd (omega arith)
+    closed_literal (pos zero) h e = cc
     closed_literal (pos (suc n)) h e = all n (omega (arith, h.1)) e
     closed_literal (negsuc n) h e = all n (omega (arith, h.1)) (slot_open values (negsuc n) refl e)
 
-    quiet_holds : (clause : List ℤ) (s : Standing) → AllByRecursion (Names v) clause → Means values clause s → tells s ≡ Nothing → satisfied (read_off v values) clause ≡ true
+    quiet_holds : (clause : List ℤ) (s : Standing) → AllByRecursion (Names v) clause → Means values clause s → tells s ≡ None → satisfied (read_off v values) clause ≡ true
     quiet_holds clause Undecided h k e = absurd (closed_literal k.0 (all-has (Names v) clause k.0 h k.1) k.2)
     quiet_holds clause Satisfied h k e = has_satisfies (read_off v values) clause k.0 k.1 (off_true k.0 (all-has (Names v) clause k.0 h k.1) k.2)
     quiet_holds clause AllFalse h k e = cc
     quiet_holds clause (Forcing z) h k e = cc
 
-    quiet_clauses : (clauses : List (List ℤ)) → AllByRecursion (AllByRecursion (Names v)) clauses → Finds values clauses Nothing → AllByRecursion (λ clause. satisfied (read_off v values) clause ≡ true) clauses
+    quiet_clauses : (clauses : List (List ℤ)) → AllByRecursion (AllByRecursion (Names v)) clauses → Finds values clauses None → AllByRecursion (λ clause. satisfied (read_off v values) clause ≡ true) clauses
     quiet_clauses [] h k = tt
     quiet_clauses (clause ∷ clauses) h k = (quiet_holds clause (judged values clause) h.0 (judged_means values clause) k.0, quiet_clauses clauses h.1 k.1)
 
@@ -81,7 +80,7 @@ module _ (v : ℕ) (values : List Value) (room : v < length values) where
     off_kept (z ∷ zs) h k = (off_true z h.0 k.0, off_kept zs h.1 k.1)
 
     -- where no clause tells anything and the assumed literals are true, the valuation answers the question
-    pub off_models : (formula assumed : List ℤ) → within v formula ≡ true → AllByRecursion (Names v) assumed → Finds values (clauses_of formula) Nothing → AllByRecursion (λ z. reads values z ≡ True) assumed →
+    pub off_models : (formula assumed : List ℤ) → within v formula ≡ true → AllByRecursion (Names v) assumed → Finds values (clauses_of formula) None → AllByRecursion (λ z. reads values z ≡ True) assumed →
         Models v formula assumed (read_off v values)
     off_models formula assumed w h k t = record {
       size = off_size;

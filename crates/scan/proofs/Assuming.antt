@@ -1,7 +1,6 @@
 -- Literals assumed in turn: along a loop, and what comes of it.
-use Rattle.std.proofs.Common.{◌≡◌, ℕ, ◌+◌, ◌<◌, ◌≤◌, true, false, List, [], ◌∷◌, length, get_or, drop, ℤ, pos, sym, refl, ap, ◌∙◌, arith, w16, SFits, to_z, of_z}
-use Rattle.std.proofs.lemmas.List.{at_drop_more, at_drop_all}
-use Rattle.std.proofs.lemmas.Int.{to_z-of_z}
+use Rattle.std.proofs.Common.{◌≡◌, ℕ, ◌+◌, ◌<◌, ◌≤◌, Bool, true, false, List, [], ◌∷◌, length, get_or, drop, ℤ, pos, sym, refl, ap, ◌∙◌, arith}
+use Rattle.std.proofs.lemmas.List.{at_drop_more, at_drop_all, length-set}
 use Rattle.std.specs.List.{AllByRecursion}
 use Rattle.std.proofs.lemmas.Bool.{both_ways, false≢true}
 use Rattle.sat.specs.Formula.{variable, is_zero, is_true}
@@ -9,30 +8,37 @@ use Rattle.scan.specs.Values.{by_value, truth, reads, Agrees}
 use Rattle.scan.specs.Edits.{assigned, assumed, unopposed}
 use Rattle.scan.specs.declared.value.Value.{Value}
 use Rattle.scan.specs.declared.value.Value.TheVariants.{Open, True, False}
+use Rattle.scan.specs.declared.values.TheConstants.{LARGEST}
 use Rattle.scan.specs.declared.values.Values.{Values}
 use Rattle.scan.proofs.Agreement.{agrees_assign, agrees_false}
 use Rattle.scan.proofs.Literals.{Names, slot_open, set_keeps, assign_true}
 
+-- what assuming a list comes to: whether none is false, and the values then
+abbrev pub outcome : Values → List ℤ → Bool × Values
+outcome values zs = (unopposed values zs, assumed values zs)
+
 module _ (values : Values) (zs : List ℤ) (i : ℕ) where
-  module _ (v : Value) (h : i < length zs) (f : SFits w16 (get_or zs i (pos 0))) (e : v ≡ reads values.slots (to_z w16 (of_z w16 (get_or zs i (pos 0))))) where
-    value_is : reads values.slots (get_or zs i (pos 0)) ≡ v
-    value_is = sym (simp to_z-of_z at e)
+  -- one literal more, by what it is
+  module _ (h : i < length zs) where
+    outcome_more : (v : Value) → reads values.slots (get_or zs i (pos 0)) ≡ v →
+        outcome values (drop i zs)
+        ≡ (by_value v (unopposed (assigned values (get_or zs i (pos 0))) (drop (i + 1) zs)) (unopposed values (drop (i + 1) zs)) false, by_value v (assumed (assigned values (get_or zs i (pos 0))) (drop (i + 1) zs)) (assumed values (drop (i + 1) zs)) values)
+    outcome_more v e =
+        at_drop_more (outcome values) zs i (pos 0) h
+        ∙ ap (λ (w : Value). (by_value w (unopposed (assigned values (get_or zs i (pos 0))) (drop (i + 1) zs)) (unopposed values (drop (i + 1) zs)) false, by_value w (assumed (assigned values (get_or zs i (pos 0))) (drop (i + 1) zs)) (assumed values (drop (i + 1) zs)) values)) e
 
-    pub assumed_more : assumed values (drop i zs) ≡ by_value v (assumed (assigned values (get_or zs i (pos 0))) (drop (i + 1) zs)) (assumed values (drop (i + 1) zs)) values
-    assumed_more =
-        at_drop_more (assumed values) zs i (pos 0) h
-        ∙ ap (λ w. by_value w (assumed (assigned values (get_or zs i (pos 0))) (drop (i + 1) zs)) (assumed values (drop (i + 1) zs)) values) value_is
+    pub outcome_open : reads values.slots (get_or zs i (pos 0)) ≡ Open → outcome (assigned values (get_or zs i (pos 0))) (drop (i + 1) zs) ≡ outcome values (drop i zs)
+    outcome_open e = sym (outcome_more Open e)
 
-    pub unopposed_more : unopposed values (drop i zs) ≡ by_value v (unopposed (assigned values (get_or zs i (pos 0))) (drop (i + 1) zs)) (unopposed values (drop (i + 1) zs)) false
-    unopposed_more =
-        at_drop_more (unopposed values) zs i (pos 0) h
-        ∙ ap (λ w. by_value w (unopposed (assigned values (get_or zs i (pos 0))) (drop (i + 1) zs)) (unopposed values (drop (i + 1) zs)) false) value_is
+    pub outcome_true : reads values.slots (get_or zs i (pos 0)) ≡ True → outcome values (drop (i + 1) zs) ≡ outcome values (drop i zs)
+    outcome_true e = sym (outcome_more True e)
 
-  pub assumed_end : length zs ≤ i → assumed values (drop i zs) ≡ values
-  assumed_end h = at_drop_all (assumed values) zs i h
+    pub outcome_false : reads values.slots (get_or zs i (pos 0)) ≡ False → (false, values) ≡ outcome values (drop i zs)
+    outcome_false e = sym (outcome_more False e)
 
-  pub unopposed_end : length zs ≤ i → unopposed values (drop i zs) ≡ true
-  unopposed_end h = at_drop_all (unopposed values) zs i h
+  -- none is left
+  pub outcome_end : length zs ≤ i → (true, values) ≡ outcome values (drop i zs)
+  outcome_end h = sym (at_drop_all (outcome values) zs i h)
 
 -- a valuation in which every literal of the list is true still agrees
 pub assumed_agrees : (values : Values) (zs : List ℤ) (m : List ℕ) → AllByRecursion (λ z. is_true m z ≡ true) zs → Agrees values.slots m → Agrees (assumed values zs).slots m
@@ -61,20 +67,21 @@ keeps_by values z y zs True r n t o h = h
 keeps_by values z y zs False r n t o h = t
 
 -- a true literal stays true
-pub assumed_keeps : (values : Values) (zs : List ℤ) (y : ℤ) → AllByRecursion (Names 1024) zs → reads values.slots y ≡ True → reads (assumed values zs).slots y ≡ True
+assumed_keeps : (values : Values) (zs : List ℤ) (y : ℤ) → AllByRecursion (Names LARGEST) zs → reads values.slots y ≡ True → reads (assumed values zs).slots y ≡ True
 assumed_keeps values [] y h t = t
 assumed_keeps values (z ∷ zs) y h t =
     keeps_by values z y zs (reads values.slots z) refl h.0.0 t (assumed_keeps (assigned values z) zs y h.1) (assumed_keeps values zs y h.1 t)
 
-true_by : (values : Values) (z : ℤ) (zs : List ℤ) (v : Value) → reads values.slots z ≡ v → AllByRecursion (Names 1024) (z ∷ zs) → by_value v (unopposed (assigned values z) zs) (unopposed values zs) false ≡ true →
+true_by : (values : Values) → length values.slots ≡ LARGEST + 1 → (z : ℤ) (zs : List ℤ) (v : Value) → reads values.slots z ≡ v → AllByRecursion (Names LARGEST) (z ∷ zs) → by_value v (unopposed (assigned values z) zs) (unopposed values zs) false ≡ true →
     (unopposed (assigned values z) zs ≡ true → AllByRecursion (λ y. reads (assumed (assigned values z) zs).slots y ≡ True) zs) → (unopposed values zs ≡ true → AllByRecursion (λ y. reads (assumed values zs).slots y ≡ True) zs) →
     AllByRecursion (λ y. reads (by_value v (assumed (assigned values z) zs) (assumed values zs) values).slots y ≡ True) (z ∷ zs)
-true_by values z zs Open r h u o t =
-    (assumed_keeps (assigned values z) zs z h.1 (assign_true values.slots z h.0.0 (omega (arith, h.0.1, values.long))), o u)
-true_by values z zs True r h u o t = (assumed_keeps values zs z h.1 r, t u)
-true_by values z zs False r h u o t = absurd (false≢true u)
+true_by values w z zs Open r h u o t =
+    (assumed_keeps (assigned values z) zs z h.1 (assign_true values.slots z h.0.0 (omega (arith, h.0.1, w))), o u)
+true_by values w z zs True r h u o t = (assumed_keeps values zs z h.1 r, t u)
+true_by values w z zs False r h u o t = absurd (false≢true u)
 
 -- literals that are not opposed are true in the end
-pub unopposed-true : (values : Values) (zs : List ℤ) → AllByRecursion (Names 1024) zs → unopposed values zs ≡ true → AllByRecursion (λ z. reads (assumed values zs).slots z ≡ True) zs
-unopposed-true values [] h u = tt
-unopposed-true values (z ∷ zs) h u = true_by values z zs (reads values.slots z) refl h u (unopposed-true (assigned values z) zs h.1) (unopposed-true values zs h.1)
+pub unopposed-true : (values : Values) → length values.slots ≡ LARGEST + 1 → (zs : List ℤ) → AllByRecursion (Names LARGEST) zs → unopposed values zs ≡ true → AllByRecursion (λ z. reads (assumed values zs).slots z ≡ True) zs
+unopposed-true values w [] h u = tt
+unopposed-true values w (z ∷ zs) h u =
+    true_by values w z zs (reads values.slots z) refl h u (unopposed-true (assigned values z) (length-set values.slots (variable z) (truth z) ∙ w) zs h.1) (unopposed-true values w zs h.1)

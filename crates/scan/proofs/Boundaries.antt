@@ -1,26 +1,26 @@
 -- Where one clause of a formula ends and the next begins.
-use Rattle.std.proofs.Common.{◌≡◌, ℕ, zero, suc, ◌+◌, ◌-◌, ◌<◌, ◌≤◌, true, false, cond, ◌&&◌, ltb, List, [], ◌∷◌, ◌++◌, length, get_or, take, drop, ℤ, pos, sym, refl, ap, ◌∙◌, arith}
+use Rattle.std.proofs.Common.{◌≡◌, ℕ, zero, suc, ◌+◌, ◌-◌, ◌<◌, true, false, cond, ◌&&◌, ltb, List, [], ◌∷◌, ◌++◌, length, get_or, take, drop, ℤ, pos, sym, refl, ap, ◌∙◌, arith}
 use Rattle.std.proofs.lemmas.List.{length-take-le, get_or-take, take-append-drop}
 use Rattle.std.proofs.lemmas.Bool.{and_parts, ltb-true, cond_both}
 use Rattle.sat.specs.Formula.{is_zero, into_first, clauses_of, closed}
 use Rattle.scan.specs.Rounds.{start_of}
 
--- the first clause and its 0 stand in front, and the numbers behind them have the other clauses
+-- behind the first clause and its 0 stand the other clauses
 abbrev pub Behind : List ℤ → List (List ℤ) → Type 0
 Behind numbers [] = Unit {0}
-Behind numbers (clause ∷ clauses) = (length clause + 1 ≤ length numbers) × (clauses_of (drop (length clause + 1) numbers) ≡ clauses)
+Behind numbers (clause ∷ clauses) = clauses_of (drop (length clause + 1) numbers) ≡ clauses
 
 behind_more : (z : ℤ) (numbers : List ℤ) (clauses : List (List ℤ)) → Behind numbers clauses → Behind (z ∷ numbers) (into_first z clauses)
 behind_more z numbers [] h = tt
 behind_more z numbers (clause ∷ clauses) h =
     let e : suc (length clause) + 1 ≡ suc (length clause + 1) = omega arith in
-    (omega (arith, h.0), ap (λ n. clauses_of (drop n (z ∷ numbers))) e ∙ h.1)
+    ap (λ n. clauses_of (drop n (z ∷ numbers))) e ∙ h
 
 pub behind : (numbers : List ℤ) → Behind numbers (clauses_of numbers)
 behind [] = tt
 behind (z ∷ numbers) =
     elim (is_zero z) as (λ b. Behind (z ∷ numbers) (cond b ([] ∷ clauses_of numbers) (into_first z (clauses_of numbers))))
-    [ true ↦ (omega arith, refl) | false ↦ behind_more z numbers (clauses_of numbers) (behind numbers) ]
+    [ true ↦ refl | false ↦ behind_more z numbers (clauses_of numbers) (behind numbers) ]
 
 -- a closed list that is not empty has a clause
 abbrev SomeClause : List (List ℤ) → Type 0
@@ -48,7 +48,7 @@ first_append z [] b h = absurd h
 first_append z (clause ∷ a) b h = refl
 
 -- the clauses of a closed front come first
-pub clauses_append : (a b : List ℤ) → closed a ≡ true → clauses_of (a ++ b) ≡ clauses_of a ++ clauses_of b
+clauses_append : (a b : List ℤ) → closed a ≡ true → clauses_of (a ++ b) ≡ clauses_of a ++ clauses_of b
 clauses_append [] b h = refl
 clauses_append (z ∷ []) b h = rw h refl
 clauses_append (z ∷ y ∷ a) b h =
@@ -63,7 +63,7 @@ closed_before formula n h z =
     let l : length (take (suc n) formula) - 1 ≡ n = omega (arith, length-take-le (suc n) formula (omega arith)) in
     ap (λ k. is_zero (get_or (take (suc n) formula) k (pos 0))) l ∙ ap is_zero (get_or-take (suc n) formula n (pos 0) (omega arith)) ∙ z
 
-pub start_closed : (formula : List ℤ) (proposed : ℕ) → closed (take (start_of formula proposed) formula) ≡ true
+start_closed : (formula : List ℤ) (proposed : ℕ) → closed (take (start_of formula proposed) formula) ≡ true
 start_closed formula zero = refl
 start_closed formula (suc n) =
     cond_both (ltb n (length formula) && is_zero (get_or formula n (pos 0))) (suc n) 0 (λ k. closed (take k formula) ≡ true)

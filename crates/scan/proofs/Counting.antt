@@ -14,8 +14,8 @@ closes : (v w : Value) → v ≡ Open → (w ≡ Open → ⊥) → (n : ℕ) →
 closes Open Open e c n = absurd (c refl)
 closes Open True e c n = omega arith
 closes Open False e c n = omega arith
-closes True w e c n = let z : ◌≡◌ {A = ℕ} 0 1 = cc in absurd (omega arith)
-closes False w e c n = let z : ◌≡◌ {A = ℕ} 0 1 = cc in absurd (omega arith)
+closes True w e c n = cc
+closes False w e c n = cc
 
 -- an open slot is closed
 pub opens_close : (values : List Value) (k : ℕ) (w : Value) → k < length values → get_or values k Open ≡ Open → (w ≡ Open → ⊥) → opens (set values k w) + 1 ≡ opens values

@@ -7,6 +7,5 @@ pub mod Finding
 pub mod Literals
 pub mod Meaning
 pub mod Places
-pub mod Slots
+pub mod Rounds
 pub mod Steps
-pub mod Telling

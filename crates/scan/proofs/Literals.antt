@@ -39,7 +39,7 @@ facing (pos n) value = value
 facing (negsuc n) value = opposite value
 
 reads_facing : (values : List Value) (z : ℤ) → is_zero z ≡ false → reads values z ≡ facing z (get_or values (variable z) Open)
-reads_facing values (pos zero) e = let n : ◌≡◌ {A = ℕ} 0 1 = cc in absurd (omega arith)
+reads_facing values (pos zero) e = cc
 reads_facing values (pos (suc n)) e = refl
 reads_facing values (negsuc n) e = refl
 
@@ -76,7 +76,7 @@ module _ (values : List Value) where
   -- a true literal stays true where an open variable is changed
   pub set_keeps : (k : ℕ) (v : Value) (y : ℤ) → get_or values k Open ≡ Open → reads values y ≡ True → reads (set values k v) y ≡ True
   set_keeps k v y o t =
-      set_other k v y (λ e. let g : reads values y ≡ Open = open_literal y (ap (λ n. get_or values n Open) e ∙ o) in let z : ◌≡◌ {A = ℕ} 0 1 = cc in omega arith) ∙ t
+      set_other k v y (λ e. let g : reads values y ≡ Open = open_literal y (ap (λ n. get_or values n Open) e ∙ o) in cc) ∙ t
 
   -- an open variable that is changed and opened again
   pub set_back : (k : ℕ) (v : Value) → get_or values k Open ≡ Open → set (set values k v) k Open ≡ values
@@ -91,4 +91,4 @@ pub opened_true : (values : List Value) (k : ℕ) (y : ℤ) → reads (set value
 opened_true values k y t =
     sym (set_other values k Open y (λ e.
     let g : reads (set values k Open) y ≡ Open = open_literal (set values k Open) y (ap (λ n. get_or (set values k Open) n Open) e ∙ opened_open values k) in
-    let z : ◌≡◌ {A = ℕ} 0 1 = cc in omega arith)) ∙ t
+    cc)) ∙ t

@@ -1,6 +1,7 @@
 -- What a clause is under a partial valuation: satisfied, all false, forcing or undecided.
-use Rattle.std.specs.Prelude.{◌≡◌, ℕ, ◌+◌, Bool, true, false, cond, ◌||◌, ◌⊎◌, List, [], ◌∷◌, length, ℤ, pos, negsuc, Some, None, filter, Option, ◌==◌}
-use Rattle.std.specs.List.{ContainsAt as Has, AllByRecursion}
+use Rattle.std.specs.Prelude.{◌≡◌, ℕ, ◌+◌, Bool, true, false, if◌then◌else◌, ◌||◌, ◌⊎◌, List, [], ◌∷◌, length, ℤ, Some, None, filter, Option}
+use Rattle.std.specs.List.{ContainsAt, AllByRecursion}
+use Rattle.std.specs.Ordering.{int_eq}
 use Rattle.sat.specs.Formula.{every}
 use Rattle.scan.specs.Values.{by_value, reads}
 use Rattle.scan.specs.declared.value.Value.{Value}
@@ -15,13 +16,6 @@ is_open value = by_value value true false false
 abbrev pub is_held : Value → Bool
 is_held value = by_value value false true false
 
--- the two numbers are equal
-abbrev pub same : ℤ → ℤ → Bool
-same (pos m) (pos n) = m == n
-same (pos m) (negsuc n) = false
-same (negsuc m) (pos n) = false
-same (negsuc m) (negsuc n) = m == n
-
 -- a literal of the clause is true
 abbrev pub held : List Value → List ℤ → Bool
 held values [] = false
@@ -34,30 +28,25 @@ open_in values clause = filter (λ z. is_open (reads values z)) clause
 -- a clause without a true literal, by its open literals: none, one (which may be repeated), or several
 abbrev pub by_open : List ℤ → Standing
 by_open [] = AllFalse
-by_open (z ∷ zs) = cond (every (same z) zs) (Forcing z) Undecided
+by_open (z ∷ zs) = if every (int_eq z) zs then Forcing z else Undecided
 
 -- what a clause is
 abbrev pub judged : List Value → List ℤ → Standing
-judged values clause = cond (held values clause) Satisfied (by_open (open_in values clause))
+judged values clause = if held values clause then Satisfied else by_open (open_in values clause)
 
 -- what is so of a clause that is judged to be this
 abbrev pub Means : List Value → List ℤ → Standing → Type 0
-Means values clause Undecided = (z : ℤ) × Has clause z × (reads values z ≡ Open)
-Means values clause Satisfied = (z : ℤ) × Has clause z × (reads values z ≡ True)
+Means values clause Undecided = (z : ℤ) × ContainsAt clause z × (reads values z ≡ Open)
+Means values clause Satisfied = (z : ℤ) × ContainsAt clause z × (reads values z ≡ True)
 Means values clause AllFalse = AllByRecursion (λ z. reads values z ≡ False) clause
-Means values clause (Forcing last) = Has clause last × (reads values last ≡ Open) × AllByRecursion (λ z. (z ≡ last) ⊎ (reads values z ≡ False)) clause
+Means values clause (Forcing last) = ContainsAt clause last × (reads values last ≡ Open) × AllByRecursion (λ z. (z ≡ last) ⊎ (reads values z ≡ False)) clause
 
 -- a clause with one open literal more
 abbrev pub with_open : Standing → ℤ → Standing
 with_open Undecided z = Undecided
 with_open Satisfied z = Satisfied
 with_open AllFalse z = Forcing z
-with_open (Forcing first) z = cond (same first z) (Forcing first) Undecided
-
--- where the first of the clauses that begin at a place ends: behind its 0
-abbrev pub ending : ℕ → List (List ℤ) → Option ℕ
-ending place [] = None
-ending place (clause ∷ clauses) = Some (place + length clause + 1)
+with_open (Forcing first) z = if int_eq first z then Forcing first else Undecided
 
 -- the first of the clauses that begin at a place: what it is, and where the next begins
 abbrev pub reading : List Value → ℕ → List (List ℤ) → Option Reading

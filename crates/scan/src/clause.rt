@@ -1,7 +1,8 @@
 // One clause read under a partial valuation.
-ghost use Rattle.std.specs.Prelude.{◌≡◌, drop};
+ghost use Rattle.std.specs.Ordering.{int_eq};
+ghost use Rattle.std.specs.Prelude.{◌≡◌, drop, option_copied, pos, position, slice_get};
 ghost use Rattle.sat.specs.Formula.{clauses_of};
-ghost use Rattle.scan.specs.Clauses.{Told, ending, reading, with_open};
+ghost use Rattle.scan.specs.Clauses.{Told, judged, reading, with_open};
 
 use crate::value::Value;
 use crate::values::Values;
@@ -19,20 +20,29 @@ pub enum Standing {
 }
 
 impl Standing {
+    // What a clause is, read no further than its first true literal.
+    fn of(clause: &[i16], values: &Values) -> Standing
+        ensures { result ≡ judged values.now.slots clause.now }
+    {
+        let mut standing = Standing::AllFalse;
+        for &literal in clause {
+            match values.read(literal) {
+                Value::False => {}
+                Value::Open => standing = standing.with_open(literal),
+                Value::True => return Standing::Satisfied,
+            }
+        }
+        standing
+    }
+
     // A clause with one open literal more.
     fn with_open(self, literal: i16) -> Standing
         ensures { result ≡ with_open self literal }
     {
         match self {
             Standing::AllFalse => Standing::Forcing(literal),
-            Standing::Forcing(first) => {
-                if first == literal {
-                    self
-                } else {
-                    Standing::Undecided
-                }
-            }
-            Standing::Undecided => Standing::Undecided,
+            Standing::Forcing(first) if first == literal => self,
+            Standing::Forcing(_) | Standing::Undecided => Standing::Undecided,
             Standing::Satisfied => Standing::Satisfied,
         }
     }
@@ -45,46 +55,30 @@ pub struct Reading {
     pub next: usize,
 }
 
-// The place behind the next 0.
-fn after_zero(numbers: &[i16], from: usize) -> Option<usize>
-    ensures { result ≡ ending from (clauses_of (drop from numbers.now)) }
+// Where the first 0 stands.
+fn first_zero(numbers: &[i16]) -> Option<usize>
+    ensures { result ≡ position (λ z. int_eq z (pos 0)) numbers.now }
 {
-    for i in from..numbers.len() {
-        if numbers[i] == 0 {
-            return Some(i + 1);
-        }
-    }
-    None
+    numbers.iter().position(|number| *number == 0)
 }
 
-// Reads the clause that begins at a place, no further than its first true literal but to find its 0.
-// Numbers without a 0 are no clause.
+// The literals of the clause that begins at a place.
+fn clause_at(numbers: &[i16], place: usize) -> Option<&[i16]>
+    ensures { option_copied result ≡ slice_get (clauses_of (drop place numbers.now)) 0 }
+{
+    let rest = numbers.get(place..)?;
+    let end = first_zero(rest)?;
+    Some(&rest[..end])
+}
+
+// Reads the clause that begins at a place. Numbers without a 0 are no clause.
 pub fn read_clause(values: &Values, numbers: &[i16], place: usize) -> Option<Reading>
     ensures exact { result ≡ reading values.now.slots place (clauses_of (drop place numbers.now)) }
     ensures means { Told values.now.slots (clauses_of (drop place numbers.now)) result }
 {
-    let mut standing = Standing::AllFalse;
-    for i in place..numbers.len() {
-        let literal = numbers[i];
-        if literal == 0 {
-            return Some(Reading {
-                standing,
-                next: i + 1,
-            });
-        }
-        match values.read(literal) {
-            Value::False => {}
-            Value::Open => standing = standing.with_open(literal),
-            Value::True => {
-                return match after_zero(numbers, i + 1) {
-                    Some(next) => Some(Reading {
-                        standing: Standing::Satisfied,
-                        next,
-                    }),
-                    None => None,
-                };
-            }
-        }
-    }
-    None
+    let clause = clause_at(numbers, place)?;
+    Some(Reading {
+        standing: Standing::of(clause, values),
+        next: place + clause.len() + 1,
+    })
 }

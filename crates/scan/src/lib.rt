@@ -7,6 +7,6 @@ pub mod value;
 pub mod values;
 
 pub use clause::{Reading, Standing, read_clause};
-pub use round::{Found, Round, look_around};
+pub use round::{Round, Telling, look_around};
 pub use value::Value;
-pub use values::Values;
+pub use values::{LARGEST, Values};

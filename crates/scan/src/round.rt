@@ -1,25 +1,38 @@
 // A round around a formula: it looks for the first clause that is all false or forces its last open literal.
 ghost use Rattle.std.specs.Prelude.{◌≡◌, drop};
 ghost use Rattle.sat.specs.Formula.{clauses_of};
-ghost use Rattle.scan.specs.Rounds.{start_of, first_telling, round, Finds};
+ghost use Rattle.scan.specs.Rounds.{tells, start_of, first_telling, round, Finds};
 
 use crate::clause::{Standing, read_clause};
 use crate::values::Values;
 
+// What a telling clause tells.
 #[derive(Clone, Copy, PartialEq, Eq, Debug)]
-pub enum Found {
-    // every clause is satisfied or undecided
-    Nothing,
-    // a clause is all false
+pub enum Telling {
+    // it is all false
     Conflict,
-    // a clause forces this literal
+    // it forces this literal
     Forced(i16),
 }
 
-// What was found, and where the next round should begin.
+impl Standing {
+    // None where the clause is satisfied or undecided.
+    fn tells(self) -> Option<Telling>
+        ensures { result ≡ tells self }
+    {
+        match self {
+            Standing::Undecided | Standing::Satisfied => None,
+            Standing::AllFalse => Some(Telling::Conflict),
+            Standing::Forcing(literal) => Some(Telling::Forced(literal)),
+        }
+    }
+}
+
+// What the first telling clause tells, and where the next round should begin.
 #[derive(Clone, Copy, PartialEq, Eq, Debug)]
 pub struct Round {
-    pub found: Found,
+    // None where every clause is satisfied or undecided
+    pub found: Option<Telling>,
     pub next: usize,
 }
 
@@ -27,10 +40,9 @@ pub struct Round {
 fn start_of(formula: &[i16], proposed: usize) -> usize
     ensures { result ≡ start_of formula.now proposed }
 {
-    if proposed > 0 && proposed <= formula.len() && formula[proposed - 1] == 0 {
-        proposed
-    } else {
-        0
+    match formula.get(..proposed) {
+        Some([.., 0]) => proposed,
+        _ => 0,
     }
 }
 
@@ -41,21 +53,13 @@ fn first_telling(values: &Values, numbers: &[i16], from: usize) -> Round
     let mut place = from;
     while let Some(reading) = read_clause(values, numbers, place) {
         place = reading.next;
-        match reading.standing {
-            Standing::AllFalse => return Round {
-                found: Found::Conflict,
-                next: place,
-            },
-            Standing::Forcing(literal) => return Round {
-                found: Found::Forced(literal),
-                next: place,
-            },
-            Standing::Undecided => {}
-            Standing::Satisfied => {}
+        let found = reading.standing.tells();
+        if found.is_some() {
+            return Round { found, next: place };
         }
     }
     Round {
-        found: Found::Nothing,
+        found: None,
         next: place,
     }
 }
@@ -67,9 +71,9 @@ pub fn look_around(values: &Values, formula: &[i16], proposed: usize) -> Round
 {
     let start = start_of(formula, proposed);
     let ahead = first_telling(values, formula, start);
-    match ahead.found {
-        Found::Nothing => first_telling(values, &formula[0..start], 0),
-        Found::Conflict => ahead,
-        Found::Forced(_) => ahead,
+    if ahead.found.is_some() {
+        ahead
+    } else {
+        first_telling(values, &formula[..start], 0)
     }
 }

@@ -1,48 +1,42 @@
--- The lowest open variable: along a loop, and what it is.
-use Rattle.std.proofs.Common.{◌≡◌, ℕ, zero, suc, ◌+◌, ◌-◌, ◌<◌, ◌≤◌, false, cond, List, get_or, Some, None, Option, sym, refl, ap, ◌∙◌, subst, ⊎_elim, arith}
+-- What the lowest open variable is.
+use Rattle.std.proofs.Common.{◌≡◌, ℕ, zero, suc, ◌+◌, ◌-◌, ◌<◌, ◌≤◌, cond, List, get_or, find, Some, None, Option, sym, refl, ap, ◌∙◌, subst, ⊎_elim, arith}
+use Rattle.std.specs.List.{range_with_len}
 use Rattle.std.proofs.lemmas.Bool.{cases_lt}
 use Rattle.scan.specs.Values.{Closed}
 use Rattle.scan.specs.Clauses.{is_open}
 use Rattle.scan.specs.declared.value.Value.{Value}
 use Rattle.scan.specs.declared.value.Value.TheVariants.{Open, True, False}
-use Rattle.search.specs.States.{open_from, lowest_open, Lowest}
-
-not_open : (w : Value) → (w ≡ Open → ⊥) → is_open w ≡ false
-not_open Open h = absurd (h refl)
-not_open True h = refl
-not_open False h = refl
-
-module _ (v i : ℕ) (values : List Value) where
-  one_more : i < v → v - i ≡ suc (v - (i + 1))
-  one_more h = omega arith
-
-  pub open_stop : i < v → get_or values (i + 1) Open ≡ Open → open_from (i + 1) (v - i) values ≡ Some (i + 1)
-  open_stop h e =
-      ap (λ k. open_from (i + 1) k values) (one_more h) ∙ ap (λ w. cond (is_open w) (Some (i + 1)) (open_from (suc (i + 1)) (v - (i + 1)) values)) e
-
-  pub open_more : i < v → (get_or values (i + 1) Open ≡ Open → ⊥) → open_from (i + 1) (v - i) values ≡ open_from (i + 1 + 1) (v - (i + 1)) values
-  open_more h c =
-      ap (λ k. open_from (i + 1) k values) (one_more h)
-      ∙ ap (λ b. cond b (Some (i + 1)) (open_from (suc (i + 1)) (v - (i + 1)) values)) (not_open (get_or values (i + 1) Open) c)
-      ∙ ap (λ k. open_from k (v - (i + 1)) values) (omega arith)
-
-  pub open_end : v ≤ i → open_from (i + 1) (v - i) values ≡ None
-  open_end h = let e : v - i ≡ 0 = omega arith in ap (λ k. open_from (i + 1) k values) e
+use Rattle.search.specs.States.{lowest_open, Lowest}
 
 module _ (values : List Value) where
-  closed_more : (n : ℕ) → Closed n values → (get_or values (suc n) Open ≡ Open → ⊥) → Closed (suc n) values
-  closed_more n c h k l e = ⊎_elim (λ lt. c k lt e) (λ ge. let q : k ≡ n = omega arith in h (ap (λ i. get_or values (suc i) Open) (sym q) ∙ e)) (cases_lt k n)
+  closed_more : (n : ℕ) → 0 < n → Closed (n - 1) values → (get_or values n Open ≡ Open → ⊥) → Closed (n + 1 - 1) values
+  closed_more n some c h k l e =
+      ⊎_elim (λ lt. c k lt e) (λ ge. let q : n ≡ suc k = omega arith in h (ap (λ i. get_or values i Open) q ∙ e)) (cases_lt k (n - 1))
 
-  from_by : (n left v : ℕ) → n + suc left ≡ v → Closed n values → (w : Value) → get_or values (suc n) Open ≡ w → (Closed (suc n) values → Lowest v values (open_from (suc (suc n)) left values)) →
-      Lowest v values (cond (is_open w) (Some (suc n)) (open_from (suc (suc n)) left values))
-  from_by n left v e c Open o h = (omega arith, omega arith, o, subst (λ (k : ℕ). Closed k values) (omega arith) c)
-  from_by n left v e c True o h = h (closed_more n c (λ q. let z : ◌≡◌ {A = ℕ} 0 1 = cc in omega arith))
-  from_by n left v e c False o h = h (closed_more n c (λ q. let z : ◌≡◌ {A = ℕ} 0 1 = cc in omega arith))
+  from_by : (n left v : ℕ) → 0 < n → n + left ≡ v → Closed (n - 1) values → (w : Value) → get_or values n Open ≡ w → (Closed (n + 1 - 1) values → Lowest v values (find (λ k. is_open (get_or values k Open)) (range_with_len (n + 1) left))) →
+      Lowest v values (cond (is_open w) (Some n) (find (λ k. is_open (get_or values k Open)) (range_with_len (n + 1) left)))
+  from_by n left v some e c Open o h = (some, omega arith, o, c)
+  from_by n left v some e c True o h = h (closed_more n some c (λ q. cc))
+  from_by n left v some e c False o h = h (closed_more n some c (λ q. cc))
 
   -- the variables from n on, with those below it closed
-  from_is : (n left v : ℕ) → n + left ≡ v → Closed n values → Lowest v values (open_from (suc n) left values)
-  from_is n zero v e c = subst (λ (k : ℕ). Closed k values) (omega arith) c
-  from_is n (suc left) v e c = from_by n left v e c (get_or values (suc n) Open) refl (from_is (suc n) left v (omega arith))
+  from_is : (n left v : ℕ) → 0 < n → n + left ≡ v + 1 → Closed (n - 1) values → Lowest v values (find (λ k. is_open (get_or values k Open)) (range_with_len n left))
+  from_is n zero v some e c = subst (λ (k : ℕ). Closed k values) (omega arith) c
+  from_is n (suc left) v some e c = from_by n left v some (omega arith) c (get_or values n Open) refl (from_is (n + 1) left v (omega arith) (omega arith))
 
 pub lowest_is : (v : ℕ) (values : List Value) (r : Option ℕ) → r ≡ lowest_open v values → Lowest v values r
-lowest_is v values r e = subst (Lowest v values) (sym e) (from_is values 0 v v (omega arith) (λ n h _. omega arith))
+lowest_is v values r e = subst (Lowest v values) (sym e) (from_is values 1 v v (omega arith) (omega arith) (λ n h _. omega arith))
+
+-- it is the only one
+module _ (v : ℕ) (values : List Value) where
+  shut : (n k : ℕ) → Closed n values → 0 < k → k ≤ n → get_or values k Open ≡ Open → ⊥
+  shut n k c some le e = let q : k ≡ suc (k - 1) = omega arith in c (k - 1) (omega arith) (sym (ap (λ i. get_or values i Open) q) ∙ e)
+
+  alone : (r q : Option ℕ) → Lowest v values r → Lowest v values q → r ≡ q
+  alone None None h k = refl
+  alone None (Some n) h k = absurd (shut v n h k.0 k.1 k.2)
+  alone (Some m) None h k = absurd (shut v m k h.0 h.1 h.2)
+  alone (Some m) (Some n) h k = let a : m < n → ⊥ = λ lt. shut (n - 1) m k.3 h.0 (omega arith) h.2 in let b : n < m → ⊥ = λ lt. shut (m - 1) n h.3 k.0 (omega arith) k.2 in ap Some (grind arith)
+
+  pub lowest_only : (r : Option ℕ) → Lowest v values r → r ≡ lowest_open v values
+  lowest_only r h = alone r (lowest_open v values) h (lowest_is v values (lowest_open v values) refl)

@@ -1,12 +1,12 @@
 -- What is left of a search falls.
-use Rattle.std.proofs.Common.{◌≡◌, ℕ, zero, suc, ◌+◌, ◌*◌, ◌<◌, ◌≤◌, List, ◌∷◌, ap, arith}
+use Rattle.std.proofs.Common.{◌≡◌, ℕ, zero, suc, ◌+◌, ◌*◌, ◌<◌, ◌≤◌, List, ◌∷◌, ap, add-one, arith}
 use Rattle.search.specs.Suiting.{nodes, untried}
 use Rattle.search.specs.declared.state.Entry.{Entry}
 use Rattle.search.specs.declared.state.Entry.TheVariants.{Implied, Choice}
 
-pub nodes_more : (n : ℕ) → nodes (n + 1) ≡ 2 * nodes n + 1
+nodes_more : (n : ℕ) → nodes (n + 1) ≡ 2 * nodes n + 1
 unfolding nodes
-nodes_more n = let e : n + 1 ≡ suc n = omega arith in ap nodes e
+nodes_more n = ap nodes (add-one n)
 
 pub nodes_some : (n : ℕ) → 1 ≤ nodes n
 unfolding nodes

@@ -1,15 +1,15 @@
 -- What a search finds.
-use Rattle.std.specs.Prelude.{ℕ, List, ℤ, Some, None, Option}
+use Rattle.std.specs.Prelude.{ℕ, List, Some, None, Option}
 use Rattle.sat.specs.Question.{Models}
-use Rattle.scan.specs.Values.{by_value, read_off}
-use Rattle.scan.specs.declared.value.Value.{Value}
+use Rattle.sat.specs.declared.question.Question.{Question}
+use Rattle.scan.specs.Values.{read_off}
 use Rattle.scan.specs.declared.values.Values.{Values}
 
--- values from which a valuation is read off that answers the question, or none where no valuation does
-abbrev pub Answering : ℕ → List ℤ → List ℤ → Option Values → Type 0
-Answering v formula assumed None = (m : List ℕ) → Models v formula assumed m → ⊥
-Answering v formula assumed (Some values) = Models v formula assumed (read_off v values.slots)
+-- the valuation answers the question
+abbrev pub Answers : Question → List ℕ → Type 0
+Answers question valuation = Models question.variables question.formula.now question.assumed.now valuation
 
--- the byte of a value, in a valuation
-abbrev pub byte_of : Value → ℕ
-byte_of value = by_value value 0 1 0
+-- values from which a valuation is read off that answers the question, or none where no valuation does
+abbrev pub Answering : Question → Option Values → Type 0
+Answering question None = (valuation : List ℕ) → Answers question valuation → ⊥
+Answering question (Some values) = Answers question (read_off question.variables values.slots)

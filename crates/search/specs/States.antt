@@ -1,7 +1,8 @@
 -- The state of a search: how it starts, and an entry more or less on its trail.
-use Rattle.std.specs.Prelude.{◌≡◌, ℕ, zero, suc, ◌+◌, ◌-◌, ◌<◌, ◌≤◌, cond, List, replicate, ℤ, pos, Some, None, Option, slice_index_or, slice_set}
-use Rattle.std.specs.Borrow.{Bor}
+use Rattle.std.specs.Prelude.{◌≡◌, ℕ, ◌-◌, ◌<◌, ◌≤◌, List, [], ◌∷◌, ◌++◌, take, reverse, find, length, ℤ, Some, None, Option, slice_get, slice_index_or}
+use Rattle.std.specs.List.{range_with_len}
 use Rattle.sat.specs.Formula.{variable}
+use Rattle.sat.specs.declared.question.Question.{Question}
 use Rattle.scan.specs.Values.{Closed}
 use Rattle.scan.specs.Clauses.{is_open}
 use Rattle.scan.specs.Edits.{put, assigned}
@@ -17,34 +18,37 @@ literal_of (Implied z) = z
 literal_of (Choice z) = z
 
 -- the start of a search
-abbrev pub started : ℕ → Bor (List ℤ) → Bor (List ℤ) → Values → State
-started variables formula assumed values =
-    record { variables = variables; formula = formula; assumed = assumed; values = values; trail = replicate 1025 (Implied (pos 0)); depth = 0; place = 0 }
+abbrev pub started : Question → Values → State
+started question values = record { question = question; values = values; trail = record { items = [] }; place = 0 }
 
 -- the same question with other values and another trail
-abbrev pub moved : State → Values → List Entry → ℕ → State
-moved s values trail depth =
-    record { variables = s.variables; formula = s.formula; assumed = s.assumed; values = values; trail = trail; depth = depth; place = s.place }
+abbrev pub moved : State → Values → List Entry → State
+moved s values trail = record s { values = values; trail = record { items = trail } }
+
+-- the entries, newest first
+abbrev pub newest_first : State → List Entry
+newest_first s = reverse s.trail.items
 
 -- an entry more: its literal is true
 abbrev pub pushed : State → Entry → State
-pushed s entry = moved s (assigned s.values (literal_of entry)) (slice_set s.trail s.depth entry) (s.depth + 1)
+pushed s entry = moved s (assigned s.values (literal_of entry)) (s.trail.items ++ entry ∷ [])
 
-abbrev pub newest_of : State → Entry
-newest_of s = slice_index_or s.trail (s.depth - 1) (Implied (pos 0))
+-- the newest entry, if there is one
+abbrev pub newest_of : State → Option Entry
+newest_of s = slice_get s.trail.items (length s.trail.items - 1)
 
--- the newest entry less: its variable is open
+-- an entry less: its variable is open
+abbrev pub without : State → Option Entry → State
+without s None = s
+without s (Some entry) = moved s (put s.values (variable (literal_of entry)) Open) (take (length s.trail.items - 1) s.trail.items)
+
+-- the newest entry less, if there is one
 abbrev pub popped : State → State
-popped s = moved s (put s.values (variable (literal_of (newest_of s))) Open) s.trail (s.depth - 1)
-
--- the first open one of so many variables from n on
-abbrev pub open_from : ℕ → ℕ → List Value → Option ℕ
-open_from n zero values = None
-open_from n (suc left) values = cond (is_open (slice_index_or values n Open)) (Some n) (open_from (suc n) left values)
+popped s = without s (newest_of s)
 
 -- the lowest open one of the variables 1 to v
 abbrev pub lowest_open : ℕ → List Value → Option ℕ
-lowest_open v values = open_from 1 v values
+lowest_open v values = find (λ n. is_open (slice_index_or values n Open)) (range_with_len 1 v)
 
 -- none of the variables 1 to v is open, or n is open and none below it
 abbrev pub Lowest : ℕ → List Value → Option ℕ → Type 0

@@ -10,12 +10,15 @@ pub use solver::Search;
 #[cfg(test)]
 mod tests {
     use crate::solver::Search;
-    use sat::{Refusal, Solver, Verdict};
+    use sat::{Question, Refusal, Solver, Verdict};
 
     fn ask(variables: usize, formula: &[i16], assumed: &[i16]) -> Result<Verdict, Refusal> {
-        let mut room = [7u8; 4];
-        let mut solver = Search::new();
-        solver.solve(variables, formula, assumed, &mut room)
+        let question = Question {
+            variables,
+            formula,
+            assumed,
+        };
+        Search::new().solve(question, &mut [7u8; 4])
     }
 
     #[test]
@@ -51,15 +54,29 @@ mod tests {
     fn bytes_of_the_valuation(rt: HostRuntime) {
         let mut room = [7u8; 4];
         let mut solver = Search::new();
-        let verdict = solver.solve(3, &[1, 0, -2, 0, 2, 3, 0], &[], &mut room);
-        assert_eq!(rt; verdict, Ok(Verdict::Yes));
+        let question = Question {
+            variables: 3,
+            formula: &[1, 0, -2, 0, 2, 3, 0],
+            assumed: &[],
+        };
+        assert_eq!(rt; solver.solve(question, &mut room), Ok(Verdict::Yes));
         assert_eq!(rt; room, [1, 0, 1, 7]);
+        let question = Question {
+            variables: 5,
+            formula: &[],
+            assumed: &[],
+        };
         assert_eq!(rt;
-            solver.solve(5, &[], &[], &mut room),
+            solver.solve(question, &mut room),
             Err(Refusal::ShortValuation { needed: 5 })
         );
         assert_eq!(rt; room, [1, 0, 1, 7]);
-        assert_eq!(rt; solver.solve(2, &[0], &[], &mut room), Ok(Verdict::No));
+        let question = Question {
+            variables: 2,
+            formula: &[0],
+            assumed: &[],
+        };
+        assert_eq!(rt; solver.solve(question, &mut room), Ok(Verdict::No));
         assert_eq!(rt; room, [0, 0, 1, 7]);
         assert_eq!(rt; solver.tally(), 2);
     }

@@ -1,11 +1,12 @@
 // The moods of a search, and the step from one to the next.
 ghost use Rattle.std.specs.Prelude.{◌≡◌};
+ghost use Rattle.search.specs.States.{newest_first};
 ghost use Rattle.search.specs.Moods.{seen_by, looked, chosen, backed, stepped};
-ghost use Rattle.search.specs.Suiting.{Suits, Same};
+ghost use Rattle.search.specs.Suiting.{Suits};
 
 use crate::state::{Entry, State};
 use sat::Verdict;
-use scan::{Found, look_around};
+use scan::{Telling, look_around};
 
 #[derive(Clone, Copy)]
 pub(crate) enum Mood {
@@ -18,21 +19,19 @@ pub(crate) enum Mood {
     Ended(Verdict),
 }
 
-impl State<'_, '_> {
+impl State<'_> {
     // What a round around the formula finds, where the search is forcing.
-    fn observe(&mut self, mood: Mood) -> Found
+    fn observe(&mut self, mood: Mood) -> Option<Telling>
         ensures answers { result ≡ seen_by self.old mood }
         ensures leaves { self.new ≡ looked self.old mood }
     {
         match mood {
             Mood::Forcing => {
-                let round = look_around(&self.values, self.formula, self.place);
+                let round = look_around(&self.values, self.question.formula, self.place);
                 self.place = round.next;
                 round.found
             }
-            Mood::Choosing => Found::Nothing,
-            Mood::Backing => Found::Nothing,
-            Mood::Ended(_) => Found::Nothing,
+            Mood::Choosing | Mood::Backing | Mood::Ended(_) => None,
         }
     }
 
@@ -54,11 +53,11 @@ impl State<'_, '_> {
     // Turns the newest unturned choice to false.
     fn back(&mut self) -> Mood
         requires { Suits self.old Mood.Backing }
-        ensures answers { result ≡ (backed self.old.depth self.old).1 }
-        ensures leaves { self.new ≡ (backed self.old.depth self.old).0 }
+        ensures answers { result ≡ (backed (newest_first self.old) self.old).1 }
+        ensures leaves { self.new ≡ (backed (newest_first self.old) self.old).0 }
     {
-        while self.depth > 0 {
-            match self.pop() {
+        while let Some(entry) = self.pop() {
+            match entry {
                 Entry::Implied(_) => {}
                 Entry::Choice(literal) => {
                     self.push(Entry::Implied(-literal));
@@ -77,12 +76,12 @@ impl State<'_, '_> {
     {
         let found = self.observe(mood);
         match (mood, found) {
-            (Mood::Forcing, Found::Forced(literal)) => {
+            (Mood::Forcing, Some(Telling::Forced(literal))) => {
                 self.push(Entry::Implied(literal));
                 Mood::Forcing
             }
-            (Mood::Forcing, Found::Conflict) => Mood::Backing,
-            (Mood::Forcing, Found::Nothing) => Mood::Choosing,
+            (Mood::Forcing, Some(Telling::Conflict)) => Mood::Backing,
+            (Mood::Forcing, None) => Mood::Choosing,
             (Mood::Choosing, _) => self.choose(),
             (Mood::Backing, _) => self.back(),
             (Mood::Ended(verdict), _) => Mood::Ended(verdict),
@@ -93,7 +92,7 @@ impl State<'_, '_> {
     pub(crate) fn run(&mut self) -> Verdict
         requires { Suits self.old Mood.Forcing }
         ensures ended { Suits self.new (Mood.Ended result) }
-        ensures same { Same self.old self.new }
+        ensures same { self.new.question ≡ self.old.question }
     {
         let mut mood = Mood::Forcing;
         loop {

@@ -1,11 +1,11 @@
 // The search as a solver.
-ghost use Rattle.std.specs.Prelude.{◌≡◌, ◌≤◌, true, ◌++◌, length, drop, replicate};
+ghost use Rattle.std.specs.Prelude.{◌≡◌, ◌<◌, ◌≤◌, true, length};
 ghost use Rattle.sat.specs.Question.{well_formed};
 ghost use Rattle.scan.specs.Values.{read_off};
-ghost use Rattle.search.specs.Answers.{byte_of, Answering};
+ghost use Rattle.search.specs.Answers.{Answering};
 
 use crate::state::State;
-use sat::{Refusal, Solver, Verdict, judge};
+use sat::{Question, Refusal, Solver, Verdict};
 use scan::{Value, Values};
 
 // Between questions a search holds the number of those that it has answered.
@@ -16,7 +16,7 @@ pub struct Search {
 
 impl Search {
     // The most variables that a search takes.
-    pub const LARGEST: usize = 1024;
+    pub const LARGEST: usize = scan::LARGEST;
 
     pub fn new() -> Search
         ensures { result.tally ≡ 0 }
@@ -26,53 +26,36 @@ impl Search {
 }
 
 // The values of the variables in a valuation that answers the question, if there is one.
-fn values_for(variables: usize, formula: &[i16], assumed: &[i16]) -> Option<Values>
-    requires { (variables ≤ 1024) × (well_formed variables formula.now assumed.now ≡ true) }
-    ensures { Answering variables formula.now assumed.now result }
+fn values_for(question: Question<'_>) -> Option<Values>
+    requires bounded { question.variables ≤ Search.LARGEST }
+    requires formed { well_formed question.variables question.formula.now question.assumed.now ≡ true }
+    ensures { Answering question.entry result }
 {
     let mut values = Values::new();
-    if !values.assume(assumed) {
+    if !values.assume(question.assumed) {
         return None;
     }
-    let mut state = State::new(variables, formula, assumed, values);
+    let mut state = State::new(question, values);
     match state.run() {
         Verdict::Yes => Some(state.values),
         Verdict::No => None,
     }
 }
 
-fn byte_of(value: Value) -> u8
-    ensures { result ≡ byte_of value }
+// Writes the values of the variables, a byte each: 1 where it is true.
+fn write_values(values: &Values, valuation: &mut [u8])
+    requires { length valuation.old < length values.now.slots }
+    ensures { valuation.new ≡ read_off (length valuation.old) values.now.slots }
 {
-    match value {
-        Value::Open => 0,
-        Value::True => 1,
-        Value::False => 0,
-    }
-}
-
-// Writes the values of the first so many variables, a byte each.
-fn write_values(values: &Values, variables: usize, valuation: &mut [u8])
-    requires { (variables ≤ 1024) × (variables ≤ length valuation.old) }
-    ensures { valuation.new ≡ read_off variables values.now.slots ++ drop variables valuation.old }
-{
-    for i in 0..variables {
-        valuation[i] = byte_of(values.get(i + 1));
-    }
-}
-
-// Makes the first so many bytes 0.
-fn clear(variables: usize, valuation: &mut [u8])
-    requires { variables ≤ length valuation.old }
-    ensures { valuation.new ≡ replicate variables 0 ++ drop variables valuation.old }
-{
-    for i in 0..variables {
-        valuation[i] = 0;
+    for (i, byte) in valuation.iter_mut().enumerate() {
+        *byte = u8::from(values.get(i + 1) == Value::True);
     }
 }
 
 impl Solver for Search {
-    ghost largest = { λ _. 1024 };
+    ghost use Rattle.scan.specs.declared.values.TheConstants.{LARGEST};
+
+    ghost largest = { λ _. LARGEST };
 
     ghost tally = { λ s. s.tally };
 
@@ -84,24 +67,17 @@ impl Solver for Search {
         self.tally
     }
 
-    fn solve(
-        &mut self,
-        variables: usize,
-        formula: &[i16],
-        assumed: &[i16],
-        valuation: &mut [u8],
-    ) -> Result<Verdict, Refusal> {
-        if let Some(refusal) = judge(Self::LARGEST, variables, formula, assumed, valuation.len()) {
-            return Err(refusal);
-        }
+    fn solve(&mut self, question: Question<'_>, valuation: &mut [u8]) -> Result<Verdict, Refusal> {
+        question.judge(Self::LARGEST, valuation.len())?;
         self.tally = self.tally.wrapping_add(1);
-        match values_for(variables, formula, assumed) {
+        let front = &mut valuation[..question.variables];
+        match values_for(question) {
             Some(values) => {
-                write_values(&values, variables, valuation);
+                write_values(&values, front);
                 Ok(Verdict::Yes)
             }
             None => {
-                clear(variables, valuation);
+                front.fill(0);
                 Ok(Verdict::No)
             }
         }

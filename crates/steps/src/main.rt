@@ -8,9 +8,9 @@ use board::{Edit, OpenBoard};
 use clauses::formula;
 use forcing::Forcing;
 use netlist::read;
-use sat::Solver;
+use sat::{Question, Solver};
 use search::Search;
-use show::{Answer, Front, Reading, Size, Written};
+use show::{Count, Front, Outcome};
 use std::io;
 use step::take;
 
@@ -84,28 +84,34 @@ fn main(rt: HostRuntime) -> io::Result<()> {
     }
     println!(rt;
         "read a damaged netlist: {}",
-        Reading(read(&mut board, DAMAGED))
+        Outcome(read(&mut board, DAMAGED).map(|()| "done"))
     )?;
     println!(rt;
         "read a netlist of six nets: {}",
-        Reading(read(&mut board, NETLIST))
+        Outcome(read(&mut board, NETLIST).map(|()| "done"))
     )?;
     let sealed = board.seal();
     let nets = sealed.rack().count();
     println!(rt; "seal: {nets} nets")?;
-    println!(rt; "measure: {}", Size(sealed.measure()))?;
+    println!(rt; "measure: {}", sealed.measure())?;
     let mut numbers = [0; 132];
-    println!(rt; "formula: {}", Written(formula(&sealed, &mut numbers)))?;
+    println!(rt; "formula: {}", Outcome(formula(&sealed, &mut numbers).map(Count)))?;
     println!(rt; "its first clauses:{}", Front(&numbers))?;
     let mut solver = Forcing::new(Search::new());
     let mut valuation = [0; 12];
-    println!(rt;
-        "question: {}",
-        Answer(solver.solve(12, &numbers, &[], &mut valuation))
-    )?;
+    let question = Question {
+        variables: 12,
+        formula: &numbers,
+        assumed: &[],
+    };
+    println!(rt; "question: {}", Outcome(solver.solve(question, &mut valuation)))?;
+    let at_a = Question {
+        assumed: &[1, 3, 5],
+        ..question
+    };
     println!(rt;
         "with nets 1, 2 and 3 at FPIC A: {}",
-        Answer(solver.solve(12, &numbers, &[1, 3, 5], &mut valuation))
+        Outcome(solver.solve(at_a, &mut valuation))
     )?;
     let mut board = sealed.reopen();
     println!(rt; "reopen")?;

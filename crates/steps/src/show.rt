@@ -1,54 +1,27 @@
 // How the answers of calls are shown.
-use board::Measure;
-use clauses::ShortBuffer;
-use netlist::{Fault, Notice};
-use sat::{Refusal, Verdict};
 use std::fmt;
 
+// What a call answered, or its refusal.
 #[derive(Drop)]
-pub struct Size(pub Measure);
+pub struct Outcome<T, E>(pub Result<T, E>);
 
-impl fmt::Display for Size {
+impl<T: fmt::Display, E: fmt::Display> fmt::Display for Outcome<T, E> {
     fn fmt<W: fmt::Write>(&self, f: &mut fmt::Formatter<W>) -> fmt::Result {
-        let Measure {
-            variables,
-            clauses,
-            literals,
-        } = self.0;
-        write!(
-            f,
-            "{variables} variables, {clauses} clauses, {literals} literals"
-        )
-    }
-}
-
-#[derive(Drop)]
-pub struct Reading(pub Result<(), Fault>);
-
-impl fmt::Display for Reading {
-    fn fmt<W: fmt::Write>(&self, f: &mut fmt::Formatter<W>) -> fmt::Result {
-        match self.0 {
-            Ok(()) => write!(f, "done"),
-            Err(fault) => {
-                let notice = Notice::of_fault(&fault);
-                write!(f, "{notice}")
-            }
+        match &self.0 {
+            Ok(answer) => write!(f, "{answer}"),
+            Err(refusal) => write!(f, "{refusal}"),
         }
     }
 }
 
+// How many numbers were written.
 #[derive(Drop)]
-pub struct Written(pub Result<usize, ShortBuffer>);
+pub struct Count(pub usize);
 
-impl fmt::Display for Written {
+impl fmt::Display for Count {
     fn fmt<W: fmt::Write>(&self, f: &mut fmt::Formatter<W>) -> fmt::Result {
-        match self.0 {
-            Ok(count) => write!(f, "{count} numbers"),
-            Err(short) => {
-                let number = short.number();
-                write!(f, "refused {number}")
-            }
-        }
+        let count = self.0;
+        write!(f, "{count} numbers")
     }
 }
 
@@ -62,21 +35,5 @@ impl fmt::Display for Front<'_> {
             write!(f, " {number}")?;
         }
         Ok(())
-    }
-}
-
-#[derive(Drop)]
-pub struct Answer(pub Result<Verdict, Refusal>);
-
-impl fmt::Display for Answer {
-    fn fmt<W: fmt::Write>(&self, f: &mut fmt::Formatter<W>) -> fmt::Result {
-        match self.0 {
-            Ok(Verdict::Yes) => write!(f, "yes"),
-            Ok(Verdict::No) => write!(f, "no"),
-            Err(refusal) => {
-                let number = refusal.number();
-                write!(f, "refused {number}")
-            }
-        }
     }
 }

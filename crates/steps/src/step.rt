@@ -3,7 +3,7 @@ ghost use Rattle.std.specs.Prelude.{◌≡◌};
 ghost use Rattle.board.specs.Held.{after, answer, judged};
 ghost use Rattle.board.specs.Views.{held_open};
 
-use board::{Edit, OpenBoard, Refusal};
+use board::{Chips, Edit, OpenBoard, Refusal};
 use std::fmt;
 
 #[derive(Drop)]
@@ -23,15 +23,12 @@ pub fn take(board: &mut OpenBoard, edit: Edit) -> Step
 
 // A set of chips, each with a space before it.
 #[derive(Drop)]
-struct Chips(u32);
+struct Ends(u32);
 
-impl fmt::Display for Chips {
+impl fmt::Display for Ends {
     fn fmt<W: fmt::Write>(&self, f: &mut fmt::Formatter<W>) -> fmt::Result {
-        for place in 0..32u32 {
-            if (self.0 >> place) % 2 == 1 {
-                let chip = place + 1;
-                write!(f, " {chip}")?;
-            }
+        for chip in Chips::of(self.0) {
+            write!(f, " {chip}")?;
         }
         Ok(())
     }
@@ -62,7 +59,7 @@ impl fmt::Display for Asked {
                 f,
                 "make {chips} chips, {fpics} FPICs, {pins} pins"
             ),
-            Edit::Add { net, ends } => write!(f, "add net {net} on chips{}", Chips(ends)),
+            Edit::Add { net, ends } => write!(f, "add net {net} on chips{}", Ends(ends)),
             Edit::Drop { net } => write!(f, "drop net {net}"),
             Edit::Lock { net, letter } => write!(f, "lock net {net} to FPIC {}", Fpic(letter)),
             Edit::Unlock { net } => write!(f, "unlock net {net}"),
@@ -75,11 +72,8 @@ impl fmt::Display for Step {
         write!(f, "{}: ", Asked(self.edit))?;
         match self.answer {
             Ok(()) => write!(f, "done"),
-            Err(Refusal::ChipFull { chip }) => write!(f, "refused 6, chip {chip}"),
-            Err(refusal) => {
-                let number = refusal.number();
-                write!(f, "refused {number}")
-            }
+            Err(refusal @ Refusal::ChipFull { chip }) => write!(f, "{refusal}, chip {chip}"),
+            Err(refusal) => write!(f, "{refusal}"),
         }
     }
 }

@@ -1,5 +1,4 @@
 -- The counts C(d, s): Pascal's rule, how they grow, and those that the table holds.
--- Assumes nothing.
 use Rattle.std.proofs.Common.{◌≡◌, ℕ, zero, suc, ◌+◌, ◌<◌, ◌≤◌, leb, ◌⊎◌, Some, None, refl, zero-le, add-one, arith, leb-true}
 use Rattle.std.proofs.lemmas.Bool.Decides.{nat_tests}
 use Rattle.subsets.specs.Choose.{subset_count, tabled}

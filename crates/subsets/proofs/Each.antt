@@ -1,5 +1,4 @@
 -- A test that antt computes at each number below a limit.
--- Assumes nothing.
 use Rattle.std.proofs.Common.{◌≡◌, ℕ, zero, suc, ◌<◌, Bool, true, ◌&&◌, refl}
 use Rattle.std.proofs.lemmas.Bool.Decides.{Decides-below_and}
 

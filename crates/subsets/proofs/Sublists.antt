@@ -1,5 +1,4 @@
 -- The sublists that `choose` lists: how many there are, how long each is, and those of a mapped list.
--- Assumes nothing.
 use Rattle.std.proofs.Common.{◌≡◌, ℕ, zero, suc, List, [], ◌∷◌, map, length, refl, ap, length-append}
 use mathlib.Core.List.{map-map}
 use Rattle.std.proofs.ByRecursion.{All-append, All-map, All-weaker}

@@ -1,5 +1,4 @@
 -- A table of counts, row after row: that it keeps Pascal's rule is one test, which antt computes over all of its entries.
--- Assumes nothing.
 use Rattle.std.proofs.Common.{◌≡◌, ℕ, zero, suc, ◌+◌, ◌*◌, ◌<◌, Bool, true, cond, eqb, List, get_or, Some, None, ◌∙◌, arith, eqb-true}
 use Rattle.std.proofs.lemmas.Bool.Decides.{nat_tests}
 use Rattle.subsets.specs.Choose.{known, subset_count, tabled}

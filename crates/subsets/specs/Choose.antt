@@ -1,5 +1,4 @@
 -- The subsets of a set that is held as a list, and how many there are of each size.
--- Assumes nothing.
 use Rattle.std.specs.Prelude.{◌≡◌, ℕ, zero, suc, ◌+◌, Bool, cond, ◌&&◌, List, [], ◌∷◌, ◌++◌, map, length, Some, None, Option, nat_le}
 
 -- the sublists of s elements, in lexicographic order of their places: first those that begin with the head

@@ -27,7 +27,7 @@ const COUNTS: [u32; 198] = [
 
 // Where the table has the count of the subsets of s elements, of a set of d.
 fn place(d: usize, s: usize) -> Option<usize>
-    ensures { result ≡ (if known d s then Some (d * 6 + s) else None) }
+    ensures { result ≡ (if known d s then Some (d * ROW + s) else None) }
 {
     if d <= LARGEST_SET && s <= LARGEST_SUBSET {
         Some(d * ROW + s)

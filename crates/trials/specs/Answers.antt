@@ -1,20 +1,22 @@
--- Which answer to a question is right.
-use Rattle.std.specs.Prelude.{◌≡◌, ℕ, ◌+◌, ◌%◌, ◌^◌, Bool, true, false, List, [], ℤ, Some, None, Ok, Err, Result}
+-- Which answer to a question is right, and how it is printed.
+use Rattle.std.specs.Prelude.{◌≡◌, ℕ, ◌+◌, ◌%◌, ◌^◌, Bool, true, false, List, [], ◌++◌, ℤ, Some, None, Ok, Err, Result, codes, decimal}
 use Rattle.sat.specs.declared.question.Refusal.{Refusal}
-use Rattle.sat.specs.Question.{Models, refusal}
-use Rattle.trials.specs.declared.ask.Answer.{Answer}
-use Rattle.trials.specs.declared.ask.Answer.TheVariants.{No, Yes, Refused, Wrong}
+use Rattle.sat.specs.declared.question.Verdict.{Verdict}
+use Rattle.sat.specs.declared.question.Verdict.TheVariants.{No, Yes}
+use Rattle.sat.specs.Question.{Models, refusal, number}
+use Rattle.trials.specs.declared.ask.Failure.{Failure}
+use Rattle.trials.specs.declared.ask.Failure.TheVariants.{Refused, Wrong}
 
 -- some valuation answers the question
 abbrev pub Answerable : (v : ℕ) (formula assumed : List ℤ) → Type 0
 Answerable v formula assumed = (values : List ℕ) × Models v formula assumed values
 
 -- yes or no by whether some valuation answers the question, where a solver of this largest does not refuse it
-abbrev pub Right : (largest v : ℕ) (formula assumed : List ℤ) (room : ℕ) → Answer → Type 0
-Right largest v formula assumed room No = (refusal largest v formula assumed room ≡ None) × (Answerable v formula assumed → ⊥)
-Right largest v formula assumed room Yes = (refusal largest v formula assumed room ≡ None) × Answerable v formula assumed
-Right largest v formula assumed room (Refused e) = refusal largest v formula assumed room ≡ Some e
-Right largest v formula assumed room Wrong = ⊥
+abbrev pub Right : (largest v : ℕ) (formula assumed : List ℤ) (room : ℕ) → Result Verdict Failure → Type 0
+Right largest v formula assumed room (Ok No) = (refusal largest v formula assumed room ≡ None) × (Answerable v formula assumed → ⊥)
+Right largest v formula assumed room (Ok Yes) = (refusal largest v formula assumed room ≡ None) × Answerable v formula assumed
+Right largest v formula assumed room (Err (Refused e)) = refusal largest v formula assumed room ≡ Some e
+Right largest v formula assumed room (Err Wrong) = ⊥
 
 -- true or false by whether some valuation satisfies every clause, where the solver does not refuse the question
 abbrev pub Settled : (largest v : ℕ) (formula : List ℤ) (room : ℕ) → Result Bool Refusal → Type 0
@@ -28,14 +30,24 @@ counted true tally = (tally + 1) % 2 ^ 32
 counted false tally = tally
 
 -- a refused question is not answered
-abbrev pub is_answered : Answer → Bool
-is_answered No = true
-is_answered Yes = true
-is_answered (Refused e) = false
-is_answered Wrong = true
+abbrev pub is_answered : Result Verdict Failure → Bool
+is_answered (Ok verdict) = true
+is_answered (Err (Refused e)) = false
+is_answered (Err Wrong) = true
 
--- true, false and a refusal as an answer
-abbrev pub told : Result Bool Refusal → Answer
-told (Ok true) = Yes
-told (Ok false) = No
-told (Err e) = Refused e
+-- true, false and a refusal as what a solver said
+abbrev pub told : Result Bool Refusal → Result Verdict Failure
+told (Ok true) = Ok Yes
+told (Ok false) = Ok No
+told (Err e) = Err (Refused e)
+
+-- how a failure is printed
+abbrev pub failure_text : Failure → List ℕ
+failure_text (Refused e) = codes "refused " ++ decimal (number e)
+failure_text Wrong = codes "wrong"
+
+-- how what a solver said is printed
+abbrev pub said_text : Result Verdict Failure → List ℕ
+said_text (Ok No) = codes "no"
+said_text (Ok Yes) = codes "yes"
+said_text (Err failure) = failure_text failure

@@ -1,9 +1,9 @@
 // Callers that know a solver by its promise alone.
-ghost use Rattle.std.specs.Prelude.{◌≡◌, length, drop, is_ok, None, Decides};
+ghost use Rattle.std.specs.Prelude.{◌≡◌, ◌↔◌, length, drop, is_ok, None, IsTrue};
 ghost use Rattle.sat.specs.Question.{refusal};
 ghost use Rattle.trials.specs.Answers.{Settled, counted};
 
-use sat::{Refusal, Solver, Verdict};
+use sat::{Question, Refusal, Solver, Verdict};
 
 // Whether some valuation makes a literal of every clause true.
 pub fn is_satisfiable<S: Solver>(
@@ -16,7 +16,12 @@ pub fn is_satisfiable<S: Solver>(
     ensures counts { S.Solver.tally solver.new ≡ counted (is_ok result) (S.Solver.tally solver.old) }
     ensures behind { drop variables valuation.new ≡ drop variables valuation.old }
 {
-    let verdict = solver.solve(variables, formula, &[], valuation)?;
+    let question = Question {
+        variables,
+        formula,
+        assumed: &[],
+    };
+    let verdict = solver.solve(question, valuation)?;
     Ok(verdict == Verdict::Yes)
 }
 
@@ -24,17 +29,15 @@ pub fn is_satisfiable<S: Solver>(
 pub fn agree<S: Solver, T: Solver>(
     one: &mut S,
     other: &mut T,
-    variables: usize,
-    formula: &[i16],
-    assumed: &[i16],
+    question: Question<'_>,
     valuation: &mut [u8],
 ) -> bool
-    ensures { Decides result ((refusal (S.Solver.largest one.old) variables formula.now assumed.now (length valuation.old) ≡ None) × (refusal (T.Solver.largest other.old) variables formula.now assumed.now (length valuation.old) ≡ None)) }
+    ensures { IsTrue result ↔ ((refusal (S.Solver.largest one.old) question.entry.variables question.entry.formula.now question.entry.assumed.now (length valuation.old) ≡ None) × (refusal (T.Solver.largest other.old) question.entry.variables question.entry.formula.now question.entry.assumed.now (length valuation.old) ≡ None)) }
 {
-    let Ok(first) = one.solve(variables, formula, assumed, valuation) else {
+    let Ok(first) = one.solve(question, valuation) else {
         return false;
     };
-    let Ok(second) = other.solve(variables, formula, assumed, valuation) else {
+    let Ok(second) = other.solve(question, valuation) else {
         return false;
     };
     first == second

@@ -1,28 +1,22 @@
 // Evaluating a question under the valuation with which a buffer begins.
-ghost use Rattle.std.specs.Prelude.{◌≤◌, take, Decides};
-ghost use Rattle.std.specs.List.{AllByRecursion};
+ghost use Rattle.std.specs.Prelude.{◌≤◌, ◌↔◌, take, IsTrue, All};
 ghost use Rattle.sat.specs.Question.{Models};
 
 use odometer::answers;
+use sat::Question;
 
 fn all_bits(values: &[u8]) -> bool
-    ensures { Decides result (AllByRecursion (λ byte. byte ≤ 1) values.now) }
+    ensures { IsTrue result ↔ All (λ byte. byte ≤ 1) values.now }
 {
-    for byte in values {
-        if *byte > 1 {
-            return false;
-        }
-    }
-    true
+    values.iter().all(|byte| *byte <= 1)
 }
 
 // The first bytes of the buffer are a valuation that answers the question.
-pub fn evaluate(variables: usize, formula: &[i16], assumed: &[i16], valuation: &[u8]) -> bool
-    ensures { Decides result (Models variables formula.now assumed.now (take variables valuation.now)) }
+pub fn evaluate(question: Question<'_>, valuation: &[u8]) -> bool
+    ensures { IsTrue result ↔ Models question.entry.variables question.entry.formula.now question.entry.assumed.now (take question.entry.variables valuation.now) }
 {
-    if valuation.len() < variables {
+    let Some(values) = valuation.get(..question.variables) else {
         return false;
-    }
-    let values = &valuation[0..variables];
-    all_bits(values) && answers(values, formula, assumed)
+    };
+    all_bits(values) && answers(question, values)
 }

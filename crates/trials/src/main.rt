@@ -7,30 +7,25 @@ ghost use Rattle.trials.specs.Answers.{Right};
 mod ask;
 mod callers;
 mod evaluate;
-mod questions;
+mod said;
+mod trial;
 
-use ask::{Answer, ask};
+use ask::{Failure, ask};
 use callers::{agree, is_satisfiable};
 use forcing::Forcing;
 use odometer::Odometer;
-use questions::{QUESTIONS, Question};
-use sat::Solver;
+use said::Said;
+use sat::{Solver, Verdict};
 use search::Search;
 use std::io;
+use trial::{TRIALS, Trial};
 
-// Asks with as many bytes of the buffer as the question has room for.
-fn put<S: Solver>(question: &Question, solver: &mut S, buffer: &mut [u8]) -> Answer
-    ensures { Right (S.Solver.largest solver.old) question.now.variables question.now.formula.now question.now.assumed.now (min question.now.room (length buffer.old)) result }
+// Asks with as many bytes of the buffer as the trial has room for.
+fn put<S: Solver>(trial: &Trial, solver: &mut S, buffer: &mut [u8]) -> Result<Verdict, Failure>
+    ensures { Right (S.Solver.largest solver.old) trial.now.question.variables trial.now.question.formula.now trial.now.question.assumed.now (min trial.now.room (length buffer.old)) result }
 {
-    let room = question.room.min(buffer.len());
-    let valuation = &mut buffer[0..room];
-    ask(
-        solver,
-        question.variables,
-        question.formula,
-        question.assumed,
-        valuation,
-    )
+    let room = trial.room.min(buffer.len());
+    ask(solver, trial.question, &mut buffer[..room])
 }
 
 fn main(rt: HostRuntime) -> io::Result<()> {
@@ -39,25 +34,18 @@ fn main(rt: HostRuntime) -> io::Result<()> {
     let mut layer = Forcing::new(Search::new());
     let mut layers = Forcing::new(Forcing::new(Odometer::new()));
     let mut buffer = [7; 1100];
-    for question in QUESTIONS.iter() {
-        let about = question.about;
-        let first = put(question, &mut search, &mut buffer);
-        let second = put(question, &mut odometer, &mut buffer);
-        let third = put(question, &mut layer, &mut buffer);
-        let fourth = put(question, &mut layers, &mut buffer);
-        let formula = question.formula;
-        let alike = agree(
-            &mut layer,
-            &mut layers,
-            question.variables,
-            formula,
-            question.assumed,
-            &mut buffer,
-        );
-        let unassumed = Answer::settled(is_satisfiable(
+    for trial in &TRIALS {
+        let about = trial.about;
+        let question = trial.question;
+        let first = Said(put(trial, &mut search, &mut buffer));
+        let second = Said(put(trial, &mut odometer, &mut buffer));
+        let third = Said(put(trial, &mut layer, &mut buffer));
+        let fourth = Said(put(trial, &mut layers, &mut buffer));
+        let alike = agree(&mut layer, &mut layers, question, &mut buffer);
+        let unassumed = Said::from(is_satisfiable(
             &mut odometer,
             question.variables,
-            formula,
+            question.formula,
             &mut buffer,
         ));
         println!(rt;

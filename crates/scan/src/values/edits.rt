@@ -20,7 +20,7 @@ impl Values {
         ensures { self.new ≡ assigned self.old literal }
     {
         self.set(
-            literal.unsigned_abs() as usize,
+            usize::from(literal.unsigned_abs()),
             Value::that_satisfies(literal),
         );
     }
@@ -30,9 +30,9 @@ impl Values {
         ensures answers { result ≡ unopposed self.old literals.now }
         ensures leaves { self.new ≡ assumed self.old literals.now }
     {
-        for literal in literals {
-            match self.read(*literal) {
-                Value::Open => self.assign(*literal),
+        for &literal in literals {
+            match self.read(literal) {
+                Value::Open => self.assign(literal),
                 Value::True => {}
                 Value::False => return false,
             }

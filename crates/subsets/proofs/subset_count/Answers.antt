@@ -1,5 +1,4 @@
 -- `subset_count` reads the count at its place: the table keeps Pascal's rule, by a test that antt computes.
--- Assumes nothing.
 use Rattle.std.proofs.Common.{sym, ◌∙◌, rules}
 use Rattle.subsets.proofs.Sublists.{length-choose}
 use Rattle.subsets.proofs.Table.{found, missing}

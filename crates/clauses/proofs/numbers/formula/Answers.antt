@@ -1,24 +1,48 @@
-use Rattle.std.proofs.Common.{Ok, Err, refl, ap, arith}
+use Rattle.std.proofs.Common.{◌≡◌, length, Ok, Err, refl, ap, ◌∙◌, arith}
+use Rattle.board.specs.Views.{held_sealed}
+use Rattle.plans.proofs.Board.{board_laws}
+use Rattle.clauses.specs.Formulas.{formula_of}
 use Rattle.clauses.specs.declared.buffer.Buffer.TheVariants.{Formula}
-use Rattle.clauses.proofs.Sealed.{sealed_laws}
+use Rattle.clauses.proofs.Filling.{writes_as}
+use Rattle.clauses.proofs.Sealed.{formula_is, length_formula}
 use Rattle.clauses.proofs.numbers.formula.Goals as goal
+use Rattle.clauses.proofs.numbers.formula.Goals.{After-number_count-needed}
+
+needed : (c : After-number_count-needed) → c.number_count-needed.result ≡ length (formula_of (held_sealed c.args.board.now))
+needed c =
+    let held = held_sealed c.args.board.now in
+    c.number_count-needed.ensures ∙ length_formula held (board_laws held c.of-ranking.ensures.lawful) c.measure.result c.measure.ensures
 
 pub returns-then-out-needed : goal.returns-then-out-needed
 returns-then-out-needed c =
+    let long = needed (goal.at.returns-then-out-needed c).After-number_count-needed in
     record {
       writes = record {
-        refused = λ h. record { result = ap (λ n. Err (record { buffer = Formula; needed = n })) c.formula_length-needed.ensures; buffer = refl };
-        written = λ h. absurd (omega (arith, c.formula_length-needed.ensures));
+        refused = λ h. record { result = ap (λ n. Err (record { buffer = Formula; needed = n })) long; buffer = refl };
+        written = λ h. absurd (omega arith);
       };
-      laws = sealed_laws c.args.board.now;
+      laws = board_laws (held_sealed c.args.board.now) c.of-ranking.ensures.lawful;
     }
+
+pub write-requires : goal.write-requires
+write-requires c =
+    let held = held_sealed c.args.board.now in
+    omega (
+      arith,
+      needed (goal.at.write-requires c).After-number_count-needed,
+      c.if-out-needed.false,
+      ap length (formula_is c.of-ranking.result held c.of-ranking.ensures.sized c.of-ranking.ensures.ranks),
+    )
 
 pub returns : goal.returns
 returns c =
+    let held = held_sealed c.args.board.now in
+    let long = needed (goal.at.returns c).After-number_count-needed in
+    let all = writes_as c.write.ensures (formula_is c.of-ranking.result held c.of-ranking.ensures.sized c.of-ranking.ensures.ranks) in
     record {
       writes = record {
-        refused = λ h. absurd (omega (arith, c.formula_length-needed.ensures));
-        written = λ h. record { result = ap Ok c.formula_length-needed.ensures; buffer = c.write_formula.ensures };
+        refused = λ h. absurd (omega arith);
+        written = λ h. record { result = ap Ok all.count; buffer = all.buffer };
       };
-      laws = sealed_laws c.args.board.now;
+      laws = board_laws held c.of-ranking.ensures.lawful;
     }

@@ -1,71 +1,95 @@
-use Rattle.std.proofs.Common.{◌≡◌, ◌-◌, ◌++◌, length, take, drop, Ok, sym, ap, ◌∙◌, arith}
+use Rattle.std.proofs.Common.{◌≡◌, ◌+◌, ◌++◌, length, take, drop, Ok, Err, refl, sym, ap, ◌∙◌, ap₂, arith}
 use Rattle.std.proofs.lemmas.List.{length-append, take_at}
 use Rattle.std.specs.List.{flat_map}
 use Rattle.board.specs.Views.{held_sealed}
-use Rattle.plans.specs.Clauses.{clauses}
-use Rattle.clauses.specs.Filling.{filled}
+use Rattle.plans.proofs.Board.{board_laws}
+use Rattle.plans.specs.Laws.{BoardLaws}
+use Rattle.clauses.specs.Filling.{Writes}
 use Rattle.clauses.specs.Formulas.{formula_of}
 use Rattle.clauses.specs.Text.{head_of, line_of, printed, text_of}
-use Rattle.clauses.proofs.Filling.{filled_more, filled_start}
-use Rattle.clauses.proofs.Sealed.{head_measured, lines_printed, text_is}
+use Rattle.clauses.specs.declared.buffer.Buffer.TheVariants.{Formula, Text}
+use Rattle.clauses.proofs.Assembly.{assembled}
+use Rattle.clauses.proofs.Filling.{room_behind, writes_as, writes_more}
+use Rattle.clauses.proofs.Sealed.{formula_is, length_formula, length_text, text_is}
 use Rattle.clauses.proofs.printing.text.Goals as goal
-use Rattle.clauses.proofs.printing.text.Goals.{After-write_formula, After-measure}
+use Rattle.clauses.proofs.printing.text.Goals.{After-number_count-count, After-lines_length, After-write}
 
--- the text is the first line and then the lines of the formula
-whole : (c : After-measure) → text_of (held_sealed c.args.board.now) ≡ head_of c.measure.result.variables c.measure.result.clauses ++ flat_map printed (formula_of (held_sealed c.args.board.now))
+laws : (c : After-number_count-count) → BoardLaws (held_sealed c.args.board.now)
+laws c = board_laws (held_sealed c.args.board.now) c.of-ranking.ensures.lawful
+
+count : (c : After-number_count-count) → c.number_count-count.result ≡ length (formula_of (held_sealed c.args.board.now))
+count c = c.number_count-count.ensures ∙ length_formula (held_sealed c.args.board.now) (laws c) c.measure-measure.result c.measure-measure.ensures
+
+pub returns-then-formula-count : goal.returns-then-formula-count
+returns-then-formula-count c =
+    let long = count (goal.at.returns-then-formula-count c).After-number_count-count in
+    record {
+      short_formula = λ h. record { result = ap (λ n. Err (record { buffer = Formula; needed = n })) long; numbers = refl; bytes = refl };
+      short_text = λ l h. absurd (omega arith);
+      written = λ l h. absurd (omega arith);
+    }
+
+needed : (c : After-lines_length) → c.head_length.result + c.lines_length.result ≡ length (text_of (held_sealed c.args.board.now))
+needed c =
+    let held = held_sealed c.args.board.now in
+    let lines = c.lines_length.ensures.value ∙ ap (λ l. length (flat_map line_of l)) (assembled c.of-ranking.result held c.of-ranking.ensures.sized c.of-ranking.ensures.ranks) in
+    ap₂ (λ a b. a + b) c.head_length.ensures.value lines ∙ sym (length_text held (board_laws held c.of-ranking.ensures.lawful) c.measure-measure.result c.measure-measure.ensures)
+
+pub returns-then-out-needed : goal.returns-then-out-needed
+returns-then-out-needed c =
+    let formula = count (goal.at.returns-then-out-needed c).After-number_count-count in
+    let long = needed (goal.at.returns-then-out-needed c).After-lines_length in
+    record {
+      short_formula = λ h. absurd (omega arith);
+      short_text = λ l h. record { result = ap (λ n. Err (record { buffer = Text; needed = n })) long; numbers = refl; bytes = refl };
+      written = λ l h. absurd (omega arith);
+    }
+
+pub write-requires : goal.write-requires
+write-requires c =
+    let held = held_sealed c.args.board.now in
+    omega (
+      arith,
+      count (goal.at.write-requires c).After-number_count-count,
+      c.if-formula-count.false,
+      ap length (formula_is c.of-ranking.result held c.of-ranking.ensures.sized c.of-ranking.ensures.ranks),
+    )
+
+-- the formula stands in its buffer
+formula : (c : After-write) → Writes (formula_of (held_sealed c.args.board.now)) c.args.formula.now c.write.new.out c.write.result
+formula c = writes_as c.write.ensures (formula_is c.of-ranking.result (held_sealed c.args.board.now) c.of-ranking.ensures.sized c.of-ranking.ensures.ranks)
+
+-- the text is the first line and then the numbers of that part of the buffer
+whole : (c : After-write) → text_of (held_sealed c.args.board.now) ≡ head_of c.measure-measure.result.variables c.measure-measure.result.clauses ++ flat_map printed (take c.number_count-count.result c.write.new.out)
 whole c =
-    let board = c.args.board.now in
-    text_is board ∙ ap (λ l. l ++ flat_map line_of (clauses (held_sealed board))) (sym (head_measured board c.measure.result c.measure.ensures))
-    ∙ ap (λ l. head_of c.measure.result.variables c.measure.result.clauses ++ l) (sym (lines_printed board))
-
--- the part of the buffer that is printed is the formula
-front : (c : After-write_formula) → take (c.formula_length-count.result - 0) c.write_formula.new.out ≡ formula_of (held_sealed c.args.board.now)
-front c =
-    let n : length (formula_of (held_sealed c.args.board.now)) ≡ c.formula_length-count.result - 0 = omega (arith, c.formula_length-count.ensures) in
-    ap (take (c.formula_length-count.result - 0)) c.write_formula.ensures
-    ∙ take_at (formula_of (held_sealed c.args.board.now)) (drop (length (formula_of (held_sealed c.args.board.now))) c.args.formula.now) (c.formula_length-count.result - 0) n
+    let held = held_sealed c.args.board.now in
+    let long = c.number_count-count.ensures ∙ length_formula held (board_laws held c.of-ranking.ensures.lawful) c.measure-measure.result c.measure-measure.ensures in
+    let front = ap (take c.number_count-count.result) (formula c).buffer ∙ take_at (formula_of held) (drop (length (formula_of held)) c.args.formula.now) c.number_count-count.result (sym long) in
+    text_is held (board_laws held c.of-ranking.ensures.lawful) c.measure-measure.result c.measure-measure.ensures
+    ∙ ap (λ l. head_of c.measure-measure.result.variables c.measure-measure.result.clauses ++ flat_map printed l) (sym front)
 
 pub write_head-head-requires : goal.write_head-head-requires
 write_head-head-requires c =
-    let head = head_of c.measure.result.variables c.measure.result.clauses in
     omega (
       arith,
-      c.text_length-needed.ensures,
+      needed (goal.at.write_head-head-requires c).After-lines_length,
       c.if-out-needed.false,
-      ap length (whole (goal.at.write_head-head-requires c).After-measure),
-      length-append head (flat_map printed (formula_of (held_sealed c.args.board.now))),
+      simp length-append at (ap length (whole (goal.at.write_head-head-requires c).After-write)),
     )
 
-pub write_lines-requires : goal.write_lines-requires
-write_lines-requires c =
-    let head = head_of c.measure.result.variables c.measure.result.clauses in
-    omega (
-      arith,
-      c.text_length-needed.ensures,
-      c.if-out-needed.false,
-      c.write_head-head.ensures.next,
-      c.write_head-head.auto.out,
-      ap length (whole (goal.at.write_lines-requires c).After-measure),
-      length-append head (flat_map printed (formula_of (held_sealed c.args.board.now))),
-      ap (λ l. length (flat_map printed l)) (front (goal.at.write_lines-requires c).After-write_formula),
-    )
+pub write_lines-lines-requires : goal.write_lines-lines-requires
+write_lines-lines-requires c =
+    room_behind c.write_head-head.ensures _
+    (omega (arith, needed (goal.at.write_lines-lines-requires c).After-lines_length, c.if-out-needed.false, ap length (whole (goal.at.write_lines-lines-requires c).After-write)))
 
 pub returns : goal.returns
 returns c =
-    let held = held_sealed c.args.board.now in
-    let head = head_of c.measure.result.variables c.measure.result.clauses in
-    let out = c.args.out.now in
+    let numbers = formula (goal.at.returns c).After-write in
+    let all = writes_as (writes_more c.write_head-head.ensures c.write_lines-lines.ensures) (sym (whole (goal.at.returns c).After-write)) in
+    let first = count (goal.at.returns c).After-number_count-count in
+    let second = needed (goal.at.returns c).After-lines_length in
     record {
-      short_formula = λ h. absurd (omega (arith, c.formula_length-count.ensures, c.if-formula-count.false));
-      short_text = λ l h. absurd (omega (arith, c.text_length-needed.ensures, c.if-out-needed.false));
-      written = λ l h.
-          record {
-            result = ap Ok c.text_length-needed.ensures;
-            numbers = c.write_formula.ensures;
-            bytes =
-                c.write_lines.ensures ∙ ap (λ l. filled c.write_head-head.result (flat_map printed l) c.write_head-head.new.out) (front (goal.at.returns c).After-write_formula)
-                ∙ ap (filled c.write_head-head.result (flat_map printed (formula_of held))) c.write_head-head.ensures.writes
-                ∙ filled_more 0 c.write_head-head.result head (flat_map printed (formula_of held)) out (omega arith) (omega (arith, c.write_head-head.ensures.next))
-                ∙ ap (λ l. filled 0 l out) (sym (whole (goal.at.returns c).After-measure)) ∙ filled_start (text_of held) out;
-          };
+      short_formula = λ h. absurd (omega arith);
+      short_text = λ l h. absurd (omega arith);
+      written = λ l h. record { result = ap Ok all.count; numbers = numbers.buffer; bytes = all.buffer };
     }

@@ -2,68 +2,54 @@ use Rattle.std.proofs.Common.{◌≡◌, ℕ, ◌-◌, [], ◌∷◌, ◌++◌, 
 use Rattle.std.proofs.lemmas.Int.{to_z-of_z}
 use Rattle.std.specs.List.{between}
 use Rattle.std.proofs.lemmas.List.{length-append}
-use Rattle.clauses.specs.Filling.{filled}
-use Rattle.clauses.specs.Sets.{literals_in, set_numbers}
-use Rattle.clauses.proofs.Filling.{filled_as, filled_none, filled_more}
-use Rattle.clauses.proofs.Sets.{sets_none, sets_short, sets_split}
+use Rattle.clauses.specs.Sets.{set_numbers}
+use Rattle.clauses.proofs.Filling.{room_behind, writes_as, writes_more, writes_none}
+use Rattle.clauses.proofs.Sets.{popped, sets_none, sets_short, sets_split}
 use Rattle.clauses.proofs.writing.+write_sets.Goals as goal
-use Rattle.clauses.proofs.writing.+write_sets.Goals.{After-with}
+use Rattle.clauses.proofs.writing.+write_sets.Goals.{After-push, After-pop}
 
 pub write_clause-requires : goal.write_clause-requires
 write_clause-requires t c =
-    let e = sets_none (literals_in c.args.front) c.args.size c.args.literals.now c.if-size-eq0.true in
-    omega (arith, c.requires.1, simp length-append at (ap length e), ap length c.as_slice.ensures)
+    let e = sets_none c.args.front.now.items c.args.size c.args.literals.now c.if-size-eq0.true in
+    omega (arith, c.requires.fits, simp length-append at (ap length e), ap length c.as_slice.ensures.value)
 
-pub returns-then-size-eq0 : goal.returns-then-size-eq0
-returns-then-size-eq0 t c =
-    let front = literals_in c.args.front in
-    let e = sets_none front c.args.size c.args.literals.now c.if-size-eq0.true in
-    let clause : c.as_slice.result.now ++ (pos 0 ∷ []) ≡ set_numbers front c.args.size c.args.literals.now = ap (λ l. l ++ (pos 0 ∷ [])) c.as_slice.ensures ∙ sym e in
-    record {
-      next = omega (arith, c.write_clause.ensures.next, simp length-append at (ap length e), ap length c.as_slice.ensures);
-      writes = filled_as c.args.at (c.as_slice.result.now ++ (pos 0 ∷ [])) (set_numbers front c.args.size c.args.literals.now) c.args.out.now c.write_clause.new.out c.write_clause.ensures.writes clause;
-    }
+pub returns-then-size-eq0-clause-writes : goal.returns-then-size-eq0-clause-writes
+returns-then-size-eq0-clause-writes t c =
+    writes_as c.write_clause.ensures (ap (λ l. l ++ (pos 0 ∷ [])) c.as_slice.ensures.value ∙ sym (sets_none c.args.front.now.items c.args.size c.args.literals.now c.if-size-eq0.true))
 
-pub returns-then-literals-size : goal.returns-then-literals-size
-returns-then-literals-size t c =
-    let e = sets_short (literals_in c.args.front) c.args.size c.args.literals.now c.if-literals-size.true in
-    record {
-      next = omega (arith, ap length e);
-      writes = filled_none c.args.at c.args.out.now ∙ ap (λ l. filled c.args.at l c.args.out.now) (sym e);
-    }
+pub returns-then-literals-size-clause-writes : goal.returns-then-literals-size-clause-writes
+returns-then-literals-size-clause-writes t c = writes_as (writes_none c.args.out.now) (sym (sets_short c.args.front.now.items c.args.size c.args.literals.now c.if-literals-size.true))
 
 -- the sets with the first literal, and then those without it
-split : (t : ℕ) (c : After-with t) →
-    set_numbers (literals_in c.args.front) c.args.size c.args.literals.now ≡
-    set_numbers (literals_in c.with.result) (c.args.size - 1) (between 1 (length c.args.literals.now) c.args.literals.now) ++
-    set_numbers (literals_in c.args.front) c.args.size (between 1 (length c.args.literals.now) c.args.literals.now)
+split : (t : ℕ) (c : After-push t) →
+    set_numbers c.args.front.now.items c.args.size c.args.literals.now ≡
+    set_numbers c.push.new.self.items (c.args.size - 1) (between 1 (length c.args.literals.now) c.args.literals.now) ++
+    set_numbers c.args.front.now.items c.args.size (between 1 (length c.args.literals.now) c.args.literals.now)
 split t c =
     let f : SFits w16 (get_or c.args.literals.now 0 (pos 0)) = search rules in
-    let e : literals_in c.with.result ≡ literals_in c.args.front ++ (get_or c.args.literals.now 0 (pos 0) ∷ []) = simp to_z-of_z at c.with.ensures.adds in
-    let s = sets_split (literals_in c.args.front) c.args.size c.args.literals.now (omega arith) (omega arith) in
+    let e : c.push.new.self.items ≡ c.args.front.now.items ++ (get_or c.args.literals.now 0 (pos 0) ∷ []) = simp to_z-of_z at c.push.ensures.items in
+    let s = sets_split c.args.front.now.items c.args.size c.args.literals.now (omega arith) (omega arith) in
     cc
 
-pub write_sets-next-requires : goal.write_sets-next-requires
-write_sets-next-requires t c = (
-  search rules,
-  (omega (arith, c.with.ensures.count, c.requires.0), omega (arith, c.requires.1, simp length-append at (ap length (split t (goal.at.write_sets-next-requires t c).After-with)))),
-)
+pub write_sets-count-requires : goal.write_sets-count-requires
+write_sets-count-requires t c =
+    let whole = split t (goal.at.write_sets-count-requires t c).After-push in
+    (search rules, (omega (arith, c.push.ensures.len, c.requires.room), omega (arith, c.requires.fits, simp length-append at (ap length whole))))
+
+-- the front is what it was
+restored : (t : ℕ) (c : After-pop t) → c.pop.new.self.items ≡ c.args.front.now.items
+restored t c = c.pop.ensures.rest ∙ popped c.args.front.now.items c.write_sets-count.new.front.items _ (c.write_sets-count.ensures.keeps ∙ c.push.ensures.items)
 
 pub write_sets-requires : goal.write_sets-requires
-write_sets-requires t c = (
-  search rules,
-  (c.requires.0, omega (arith, c.requires.1, c.write_sets-next.ensures.next, c.write_sets-next.auto.out, simp length-append at (ap length (split t (goal.at.write_sets-requires t c).After-with)))),
-)
+write_sets-requires t c =
+    let front = restored t (goal.at.write_sets-requires t c).After-pop in
+    let rest = between 1 (length c.args.literals.now) c.args.literals.now in
+    let whole = split t (goal.at.write_sets-requires t c).After-push ∙ ap (λ l. set_numbers c.push.new.self.items (c.args.size - 1) rest ++ set_numbers l c.args.size rest) (sym front) in
+    (search rules, (omega (arith, ap length front, c.requires.room), room_behind c.write_sets-count.ensures.writes (set_numbers c.pop.new.self.items c.args.size rest) (omega (arith, c.requires.fits, ap length whole))))
 
-pub returns : goal.returns
-returns t c =
-    let e = split t (goal.at.returns t c).After-with in
-    let more =
-    filled_more c.args.at c.write_sets-next.result (set_numbers (literals_in c.with.result) (c.args.size - 1) (between 1 (length c.args.literals.now) c.args.literals.now))
-    (set_numbers (literals_in c.args.front) c.args.size (between 1 (length c.args.literals.now) c.args.literals.now)) c.args.out.now (omega (arith, c.requires.1)) c.write_sets-next.ensures.next in
-    record {
-      next = omega (arith, c.write_sets.ensures.next, c.write_sets-next.ensures.next, simp length-append at (ap length e));
-      writes =
-          c.write_sets.ensures.writes ∙ ap (filled c.write_sets-next.result (set_numbers (literals_in c.args.front) c.args.size (between 1 (length c.args.literals.now) c.args.literals.now))) c.write_sets-next.ensures.writes
-          ∙ more ∙ ap (λ l. filled c.args.at l c.args.out.now) (sym e);
-    }
+pub returns-clause-writes : goal.returns-clause-writes
+returns-clause-writes t c =
+    let front = restored t (goal.at.returns-clause-writes t c).After-pop in
+    let rest = between 1 (length c.args.literals.now) c.args.literals.now in
+    let whole = split t (goal.at.returns-clause-writes t c).After-push ∙ ap (λ l. set_numbers c.push.new.self.items (c.args.size - 1) rest ++ set_numbers l c.args.size rest) (sym front) in
+    writes_as (writes_more c.write_sets-count.ensures.writes c.write_sets.ensures.writes) (sym whole)

@@ -1,9 +1,9 @@
-use Rattle.std.proofs.Common.{arith}
-use Rattle.netlist.proofs.Sets.{with_taken, with_free}
+use Rattle.std.proofs.Common.{◌≤◌, ◌∙◌, rules}
+use Rattle.netlist.proofs.Sets.{with_bit}
 use Rattle.netlist.proofs.chips.with_chip.Goals as goal
 
-pub returns-then-taken-ne0 : goal.returns-then-taken-ne0
-returns-then-taken-ne0 c = with_taken c.args.ends c.args.chip (omega arith) (omega arith) (λ e. omega arith)
-
 pub returns : goal.returns
-returns c = with_free c.args.ends c.args.chip (omega arith) (omega arith) (omega arith)
+returns c =
+    let low : 1 ≤ c.args.chip = search rules in
+    let high : c.args.chip ≤ 32 = search rules in
+    c.then_some.ensures ∙ with_bit c.args.ends c.args.chip low high

@@ -6,7 +6,6 @@ use Rattle.board.proofs.open.OpenBoard.remove.Goals as goal
 pub invariant_of-self : goal.invariant_of-self
 invariant_of-self c =
     record {
-      sized = c.args.self.now.rack.sized;
-      good = good_kept _ _ _ _ _ _ c.strike.ensures refl c.args.self.now.rack.good;
-      loads = load_kept _ _ _ _ _ c.strike.ensures (λ chip t. absurd (false≢true t)) c.args.self.now.rack.loads;
+      good = good_kept _ _ _ _ _ _ c.set.ensures refl c.args.self.now.rack.good;
+      loads = load_kept _ _ _ _ _ c.set.ensures (λ chip t. absurd (false≢true t)) c.args.self.now.rack.loads;
     }

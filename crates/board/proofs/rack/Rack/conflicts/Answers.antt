@@ -1,31 +1,29 @@
-use Rattle.std.proofs.Common.{◌≡◌, ◌+◌, ◌≤◌, sym, ap, ◌∙◌, ⊎_elim, arith}
+use Rattle.std.proofs.Common.{◌≡◌, ℕ, ◌+◌, ◌^◌, refl, arith, rules}
+use Rattle.std.proofs.lemmas.Iterator.{YieldsList-from_map}
+use Rattle.std.proofs.lemmas.Iterator.Consumers.{YieldsList-at, sum_by_from_yields_List, fits_by_from_yields_list}
+use Rattle.std.specs.List.{range_with_len}
 use Rattle.subsets.specs.Choose.{subset_count}
-use Rattle.subsets.proofs.Count.{tabled_none, tabled_some, tabled_at_most}
+use Rattle.board.specs.Measure.{conflicts_in}
 use Rattle.board.specs.Rows.{load}
-use Rattle.board.proofs.Counts.{conflicts_none, conflicts_more, few_nets, sizes}
+use Rattle.board.proofs.Counts.{conflicts_at_most}
+use Rattle.board.proofs.Spans.{YieldsList-from_inclusive}
 use Rattle.board.proofs.rack.Rack.conflicts.Goals as goal
 
-pub unreachable-requires : goal.unreachable-requires
-unreachable-requires c =
-    let s = sizes c.args.self.now.chips c.args.self.now.fpics c.args.self.now.pins c.args.self.now.sized in
-    let few : c.load.result ≤ 32 =
-    (let v = c.load.ensures.value in
-    omega (arith, few_nets c.args.self.now.chips c.args.self.now.fpics c.args.self.now.pins c.args.self.now.table.rows (c.loop-place.place + 1) c.args.self.now.sized (c.args.self.now.loads (c.loop-place.place + 1)))) in
-    ⊎_elim (λ l. omega arith) (λ l. omega (arith, s.3)) (tabled_none c.load.result (c.args.self.now.pins + 1) c.in-None.ensures.counted)
+pub sum-requires-clause-fits : goal.sum-requires-clause-fits
+unfolding conflicts_in
+sum-requires-clause-fits c =
+    let rack = c.args.self.now in
+    let h : ℕ → ℕ = λ chip. subset_count (load chip rack.table.rows) (rack.sizes.pins + 1) in
+    fits_by_from_yields_list h (range_with_len 1 rack.sizes.chips) c.map.result (2 ^ 32)
+    (YieldsList-from_map _ h (YieldsList-at c.map.ensures.source (YieldsList-from_inclusive _ _ (λ a b. refl) (λ a b e. e) 1 c.from.result rack.sizes.chips c.new.ensures.start c.new.ensures.end c.new.ensures.exhausted (omega arith))) c.map.ensures.closure (λ x r q k. search rules))
+    (omega (arith, conflicts_at_most rack.sizes.chips rack.sizes.fpics rack.sizes.pins rack.table.rows rack.sizes.sized rack.loads))
 
-pub loop-place-init : goal.loop-place-init
-loop-place-init c = (sym (conflicts_none (c.args.self.now.pins + 1) c.args.self.now.table.rows), omega arith)
-
-pub overflow_add-total : goal.overflow_add-total
-overflow_add-total c =
-    let s = sizes c.args.self.now.chips c.args.self.now.fpics c.args.self.now.pins c.args.self.now.sized in
-    omega (arith, s.0, c.loop-place.invariant.1, tabled_at_most c.load.result (c.args.self.now.pins + 1) c.in-Some.count c.in-Some.ensures.counted)
-
-pub loop-place-preserved : goal.loop-place-preserved
-loop-place-preserved c =
-    let count = c.in-Some.ensures.counted in
-    let n : c.in-Some.count ≡ subset_count (load (c.loop-place.place + 1) c.args.self.now.table.rows) (c.args.self.now.pins + 1) =
-    tabled_some c.load.result (c.args.self.now.pins + 1) c.in-Some.count count ∙ ap (λ d. subset_count d (c.args.self.now.pins + 1)) c.load.ensures.value in (
-      omega (arith, n, c.loop-place.invariant.0, conflicts_more (c.args.self.now.pins + 1) c.args.self.now.table.rows c.loop-place.place),
-      omega (arith, c.loop-place.invariant.1, tabled_at_most c.load.result (c.args.self.now.pins + 1) c.in-Some.count count),
-    )
+pub returns : goal.returns
+unfolding conflicts_in
+returns c =
+    let rack = c.args.self.now in
+    let h : ℕ → ℕ = λ chip. subset_count (load chip rack.table.rows) (rack.sizes.pins + 1) in
+    let value : c.sum.result ≡ conflicts_in (rack.sizes.pins + 1) rack.table.rows rack.sizes.chips =
+    sum_by_from_yields_List h (range_with_len 1 rack.sizes.chips) c.map.result c.sum.result c.sum.ensures.ran
+    (YieldsList-from_map _ h (YieldsList-at c.map.ensures.source (YieldsList-from_inclusive _ _ (λ a b. refl) (λ a b e. e) 1 c.from.result rack.sizes.chips c.new.ensures.start c.new.ensures.end c.new.ensures.exhausted (omega arith))) c.map.ensures.closure (λ x r q k. search rules)) in
+    record { value = value; bound = omega (arith, conflicts_at_most rack.sizes.chips rack.sizes.fpics rack.sizes.pins rack.table.rows rack.sizes.sized rack.loads) }

@@ -1,29 +1,16 @@
-use Rattle.std.proofs.Common.{◌≡◌, [], ◌∷◌, ◌++◌, map, ap, ◌∙◌, zero-add, arith, w16, SFits, rules}
-use Rattle.std.proofs.lemmas.List.FromFn.{length-map-range_with_len, map-range_with_len_more}
-use Rattle.std.proofs.lemmas.Int.{to_z-of_z}
-use Rattle.std.specs.List.{range_with_len}
-use Rattle.subsets.specs.Choose.{choose}
-use Rattle.plans.specs.Clauses.{goes}
+use Rattle.std.proofs.Common.{◌≡◌, ◌<◌, [], ◌∷◌, pos, sym, ap, ◌∙◌, arith, rules}
+use Rattle.std.proofs.lemmas.List.FromFn.{fill_by_all}
+use Rattle.plans.specs.Clauses.{at_least_one, goes}
 use Rattle.clauses.specs.Blocks.{clauses_in}
-use Rattle.clauses.specs.Sets.{literals_in}
 use Rattle.clauses.proofs.Sets.{choose_all}
 use Rattle.clauses.proofs.ranking.Ranking.at_least_one.Goals as goal
-
-pub loop-fpic-preserved : goal.loop-fpic-preserved
-loop-fpic-preserved c =
-    let f : SFits w16 c.variable.result = search rules in
-    let e : literals_in c.with-literals.result ≡ literals_in c.loop-fpic.literals ++ (c.variable.result ∷ []) = simp to_z-of_z at c.with-literals.ensures.adds in
-    let more = map-range_with_len_more (goes c.args.self.now.fpics c.args.rank) 0 c.loop-fpic.fpic c.loop-fpic.fpic (zero-add c.loop-fpic.fpic) in
-    let v = c.variable.ensures in
-    let inv = c.loop-fpic.invariant.1 in
-    (omega (arith, c.with-literals.ensures.count, c.loop-fpic.invariant.0), cc)
 
 pub returns : goal.returns
 unfolding clauses_in
 returns c =
-    let n : c.loop-fpic.fpic ≡ c.args.self.now.fpics = omega arith in
-    let all = ap (λ k. map (goes c.args.self.now.fpics c.args.rank) (range_with_len 0 k)) n in
-    let inv = c.loop-fpic.invariant.1 in
-    ap (choose c.args.self.now.fpics) (inv ∙ all)
-    ∙ choose_all c.args.self.now.fpics (map (goes c.args.self.now.fpics c.args.rank) (range_with_len 0 c.args.self.now.fpics))
-    (omega (arith, length-map-range_with_len (goes c.args.self.now.fpics c.args.rank) 0 c.args.self.now.fpics))
+    let k = c.args.self.now.sizes.fpics in
+    let items = c.literals-literals.result.items in
+    let all : items ≡ at_least_one k c.args.rank =
+    fill_by_all (goes k c.args.rank) items k (pos 0) (c.literals-literals.ensures.count ∙ c.fpics-fpics.ensures)
+    (λ i h. let inside : i < c.fpics-fpics.result = omega (arith, c.fpics-fpics.ensures, h) in let e = c.literals-literals.ensures.each i inside in search rules) in
+    choose_all c.fpics-fpics.result items (sym c.literals-literals.ensures.count) ∙ ap (λ l. l ∷ []) all

@@ -1,27 +1,18 @@
-use Rattle.std.proofs.Common.{◌≡◌, [], ◌∷◌, ◌++◌, map, ap, ◌∙◌, zero-add, arith, w16, SFits, rules}
-use Rattle.std.proofs.lemmas.List.FromFn.{map-range_with_len_more}
-use Rattle.std.proofs.lemmas.Int.{to_z-of_z}
+use Rattle.std.proofs.Common.{◌≡◌, ◌<◌, map, pos, ap, ◌∙◌, arith, rules}
+use Rattle.std.proofs.lemmas.List.FromFn.{fill_by_all}
 use Rattle.std.specs.List.{range_with_len}
 use Rattle.subsets.specs.Choose.{choose}
 use Rattle.subsets.proofs.Sublists.{choose-map}
 use Rattle.plans.specs.Clauses.{goes_not}
 use Rattle.clauses.specs.Blocks.{clauses_in}
-use Rattle.clauses.specs.Sets.{literals_in}
 use Rattle.clauses.proofs.ranking.Ranking.at_most_one.Goals as goal
-
-pub loop-fpic-preserved : goal.loop-fpic-preserved
-loop-fpic-preserved c =
-    let f : SFits w16 c.negated.result = search rules in
-    let e : literals_in c.with-literals.result ≡ literals_in c.loop-fpic.literals ++ (c.negated.result ∷ []) = simp to_z-of_z at c.with-literals.ensures.adds in
-    let more = map-range_with_len_more (goes_not c.args.self.now.fpics c.args.rank) 0 c.loop-fpic.fpic c.loop-fpic.fpic (zero-add c.loop-fpic.fpic) in
-    let v = c.negated.ensures in
-    let inv = c.loop-fpic.invariant.1 in
-    (omega (arith, c.with-literals.ensures.count, c.loop-fpic.invariant.0), cc)
 
 pub returns : goal.returns
 unfolding clauses_in
 returns c =
-    let n : c.loop-fpic.fpic ≡ c.args.self.now.fpics = omega arith in
-    let all = ap (λ k. map (goes_not c.args.self.now.fpics c.args.rank) (range_with_len 0 k)) n in
-    let inv = c.loop-fpic.invariant.1 in
-    ap (choose 2) (inv ∙ all) ∙ choose-map (goes_not c.args.self.now.fpics c.args.rank) 2 (range_with_len 0 c.args.self.now.fpics)
+    let k = c.args.self.now.sizes.fpics in
+    let items = c.literals-literals.result.items in
+    let all : items ≡ map (goes_not k c.args.rank) (range_with_len 0 k) =
+    fill_by_all (goes_not k c.args.rank) items k (pos 0) (c.literals-literals.ensures.count ∙ c.fpics.ensures)
+    (λ i h. let inside : i < c.fpics.result = omega (arith, c.fpics.ensures, h) in let e = c.literals-literals.ensures.each i inside in search rules) in
+    ap (choose 2) all ∙ choose-map (goes_not k c.args.rank) 2 (range_with_len 0 k)

@@ -1,16 +1,15 @@
-use Rattle.std.proofs.Common.{refl, zero-le}
-use Rattle.clauses.proofs.Ranks.{limits_kept, ranks_none, slot_none, zeros_few}
+use Rattle.std.proofs.Common.{[], refl, ap, ⊎_elim, arith, rules}
+use Rattle.std.proofs.lemmas.List.{get_or_past}
+use Rattle.std.proofs.lemmas.Bool.{cases_lt}
 use Rattle.clauses.proofs.ranking.Ranking.empty.Goals as goal
 
-pub invariant_of-result : goal.invariant_of-result
-invariant_of-result c =
+pub returns-clause-empty : goal.returns-clause-empty
+returns-clause-empty c =
     record {
-      sized = limits_kept c.chips.result c.fpics.result c.pins.result c.args.rack.now.chips c.args.rack.now.fpics c.args.rack.now.pins c.chips.ensures c.fpics.ensures c.pins.ensures c.args.rack.now.sized;
-      held = zero-le;
-      wide = refl;
-      few = zeros_few 32 _ refl;
-      long = refl;
+      nets = refl;
+      lists = λ place.
+          ⊎_elim
+          (λ l. let h = c.from_fn.ensures.items.at place (record { items = [] }) l in search rules)
+          (λ l. ap (λ v. v.items) (get_or_past c.from_fn.result place (record { items = [] }) (omega (arith, c.from_fn.ensures.items.long))))
+          (cases_lt place 32);
     }
-
-pub returns : goal.returns
-returns c = record { sized = record { chips = c.chips.ensures; fpics = c.fpics.ensures; pins = c.pins.ensures }; empty = ranks_none _ refl (slot_none 32 _ _ refl) }

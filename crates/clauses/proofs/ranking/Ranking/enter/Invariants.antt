@@ -1,12 +1,11 @@
-use Rattle.std.proofs.Common.{◌≡◌, ℕ, ◌+◌, ◌^◌, ◌<◌, cond, [], ◌∷◌, ◌++◌}
+use Rattle.std.proofs.Common.{◌≡◌, ℕ, ◌+◌, true, cond, [], ◌∷◌, ◌++◌}
+use Rattle.std.specs.List.{All}
 use Rattle.board.specs.Rows.{has_end}
-use Rattle.clauses.specs.Ranks.{ranks_at, SameSizes}
+use Rattle.clauses.specs.Ranks.{ranks_at}
+use Rattle.clauses.proofs.Marks.{marks}
 use Rattle.clauses.proofs.ranking.Ranking.enter.Given as goal
 
-abbrev pub invariant-loop-rest : goal.invariant-loop-rest
-invariant-loop-rest l =
-    (l.rest < 2 ^ 32) × SameSizes l.initial.self l.self × (l.self.nets ≡ l.initial.self.nets)
-    × ((place : ℕ) → ranks_at l.self place ++ cond (has_end l.rest (place + 1)) (l.initial.self.nets ∷ []) [] ≡ ranks_at l.initial.self place ++ cond (has_end l.ends (place + 1)) (l.initial.self.nets ∷ []) [])
-
-abbrev pub decreases-loop-rest : goal.decreases-loop-rest
-decreases-loop-rest l = l.rest
+abbrev pub invariant-loop-chip : goal.invariant-loop-chip
+invariant-loop-chip l =
+    (l.self.sizes ≡ l.initial.self.sizes) × (l.self.nets ≡ l.initial.self.nets) × All (λ chip. has_end l.fn.net.ends chip ≡ true) l.chip-iterator
+    × ((place : ℕ) → ranks_at l.self place ++ marks l.initial.self.nets place l.chip-iterator ≡ ranks_at l.initial.self place ++ cond (has_end l.fn.net.ends (place + 1)) (l.initial.self.nets ∷ []) [])

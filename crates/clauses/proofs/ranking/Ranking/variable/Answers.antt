@@ -1,14 +1,16 @@
-use Rattle.std.proofs.Common.{◌+◌, ◌*◌, w16}
+use Rattle.std.proofs.Common.{◌≡◌, ◌+◌, ◌*◌, ◌^◌, ◌<◌, pos, ap, ◌∙◌, arith, w16}
 use Rattle.std.proofs.lemmas.Int.{to_z_pos}
-use Rattle.clauses.proofs.Variables.{variable_small, variable_fits}
+use Rattle.clauses.proofs.Variables.{variable_small}
 use Rattle.clauses.proofs.ranking.Ranking.variable.Goals as goal
+use Rattle.clauses.proofs.ranking.Ranking.variable.Goals.{After-fpics}
 
-pub overflow_cast-result : goal.overflow_cast-result
-overflow_cast-result c =
-    variable_fits (c.args.rank * c.args.self.now.fpics + c.args.fpic + 1)
-    (variable_small c.args.self.now.chips c.args.self.now.fpics c.args.self.now.pins c.args.rank c.args.fpic c.args.self.now.sized c.requires.0 c.requires.1)
+number : (c : After-fpics) → c.args.rank * c.fpics.result + c.args.fpic + 1 ≡ c.args.rank * c.args.self.now.sizes.fpics + c.args.fpic + 1
+number c = ap (λ k. c.args.rank * k + c.args.fpic + 1) c.fpics.ensures
+
+small : (c : After-fpics) → c.args.rank * c.fpics.result + c.args.fpic + 1 < 2 ^ 15
+small c =
+    let sizes = c.args.self.now.sizes in
+    omega (arith, number c, variable_small sizes.chips sizes.fpics sizes.pins c.args.rank c.args.fpic sizes.sized c.ranges.rank.fits c.requires)
 
 pub returns : goal.returns
-returns c =
-    to_z_pos w16 (c.args.rank * c.args.self.now.fpics + c.args.fpic + 1)
-    (variable_small c.args.self.now.chips c.args.self.now.fpics c.args.self.now.pins c.args.rank c.args.fpic c.args.self.now.sized c.requires.0 c.requires.1)
+returns c = to_z_pos w16 (c.args.rank * c.fpics.result + c.args.fpic + 1) (small (goal.at.returns c).After-fpics) ∙ ap pos (number (goal.at.returns c).After-fpics)

@@ -1,6 +1,6 @@
-use Rattle.netlist.proofs.Parts.{field_missing}
-use Rattle.netlist.proofs.Sequences.{missing, missing_first, stays}
+use Rattle.std.proofs.Common.{decimal, refl}
+use Rattle.netlist.proofs.Parts.{no_byte}
 use Rattle.netlist.proofs.reader.Reader.field.Goals as goal
 
 pub returns-in_err-space : goal.returns-in_err-space
-returns-in_err-space c = rw c.from_residual.ensures (stays (field_missing (missing_first _ _ (missing c.in_err-space.ensures))))
+returns-in_err-space c = no_byte decimal (λ _. refl) c.from_residual.ensures c.in_err-space.ensures
