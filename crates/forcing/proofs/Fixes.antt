@@ -1,16 +1,15 @@
 -- From assumed literals and forcing to what is fixed of a question, or to its having no model.
-use Rattle.std.proofs.Common.{◌≡◌, ℕ, ◌+◌, ◌≤◌, true, false, ◌&&◌, leb, List, [], ◌∷◌, length, replicate, ℤ, sym, refl, ap, ◌∙◌, subst, length-set, arith}
+use Rattle.std.proofs.Common.{◌≡◌, ℕ, ◌+◌, ◌≤◌, true, false, ◌&&◌, leb, List, [], ◌∷◌, replicate, ℤ, sym, refl, subst, arith}
 use Rattle.std.specs.List.{AllByRecursion}
 use Rattle.std.proofs.ByRecursion.{All-weaker}
-use Rattle.std.proofs.lemmas.List.{length-replicate}
 use Rattle.std.proofs.lemmas.Bool.{and_parts, and_from, both_ways, leb-true, le-leb}
 use Rattle.sat.specs.Formula.{variable, within, literals, closed}
 use Rattle.sat.specs.Question.{Models, well_formed}
 use Rattle.sat.specs.declared.question.Question.{Question}
-use Rattle.scan.specs.Values.{by_value, truth, reads, Agrees}
-use Rattle.scan.specs.Edits.{assigned, assumed, unopposed}
+use Rattle.scan.specs.Values.{reads, Agrees}
+use Rattle.scan.specs.Edits.{assumed, unopposed}
 use Rattle.scan.specs.declared.value.Value.{Value}
-use Rattle.scan.specs.declared.value.Value.TheVariants.{Open, True, False}
+use Rattle.scan.specs.declared.value.Value.TheVariants.{Open, True}
 use Rattle.scan.specs.declared.values.TheConstants.{LARGEST}
 use Rattle.scan.specs.declared.values.Values.{Values}
 use Rattle.scan.proofs.Agreement.{agrees_open}
@@ -48,21 +47,8 @@ module _ (question : Question) (formed : well_formed question.variables question
       let p = and_parts (within question.variables question.assumed.now) (literals question.assumed.now) later.1 in
       literals_name w question.assumed.now (within_wider question.variables w question.assumed.now h p.0) p.1
 
--- assuming leaves the slots as many as they are
-length-assumed : (values : Values) (zs : List ℤ) → length (assumed values zs).slots ≡ length values.slots
-length-assumed values [] = refl
-length-assumed values (z ∷ zs) =
-    elim (reads values.slots z) as (λ v. length (by_value v (assumed (assigned values z) zs) (assumed values zs) values).slots ≡ length values.slots)
-    [ Open ↦ length-assumed (assigned values z) zs ∙ length-set values.slots (variable z) (truth z) | True ↦ length-assumed values zs | False ↦ refl ]
-
 -- from all variables open, by the assumed literals, to what forcing leaves
 module _ (question : Question) (start middle : Values) (fresh : start.slots ≡ replicate (LARGEST + 1) Open) (leaves : middle ≡ assumed start question.assumed.now) where
-  start_slots : length start.slots ≡ LARGEST + 1
-  start_slots = ap length fresh ∙ length-replicate (LARGEST + 1) Open
-
-  pub middle_slots : length middle.slots ≡ LARGEST + 1
-  middle_slots = ap (λ x. length x.slots) leaves ∙ length-assumed start question.assumed.now ∙ start_slots
-
   start_agrees : (m : List ℕ) → Agrees start.slots m
   start_agrees m = subst (λ slots. Agrees slots m) (sym fresh) (agrees_open (LARGEST + 1) m)
 
@@ -83,7 +69,7 @@ module _ (question : Question) (start middle : Values) (fresh : start.slots ≡ 
         record {
           keeps =
               All-weaker (λ z. reads middle.slots z ≡ True) (λ z. reads after z ≡ True) f.keeps question.assumed.now
-              (subst (λ x. AllByRecursion (λ z. reads x.slots z ≡ True) question.assumed.now) (sym leaves) (unopposed-true start start_slots question.assumed.now (assumed_name question formed LARGEST h) u));
+              (subst (λ x. AllByRecursion (λ z. reads x.slots z ≡ True) question.assumed.now) (sym leaves) (unopposed-true start question.assumed.now (assumed_name question formed LARGEST h) u));
           implied = λ m s. f.implies m s.clauses (middle_agrees m s);
           ended = f.ended;
         }

@@ -11,10 +11,8 @@ use scan::{LARGEST, Telling, Values, look_around};
 
 // Makes the last open literal of a clause true whose others are false, until no clause tells anything more,
 // and says whether none is all false. Each look begins where the last one stopped.
-// `slots` holds of every partial valuation, but behind a reference the type alone does not tell it.
 fn force(values: &mut Values, formula: &[i16]) -> bool
-    requires slots { length values.old.slots ≡ LARGEST + 1 }
-    requires bounded { within LARGEST formula.now ≡ true }
+    requires { within LARGEST formula.now ≡ true }
     ensures { Forces formula.now values.old.slots values.new.slots result }
 {
     let mut place = 0;

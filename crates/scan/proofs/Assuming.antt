@@ -1,6 +1,6 @@
 -- Literals assumed in turn: along a loop, and what comes of it.
 use Rattle.std.proofs.Common.{◌≡◌, ℕ, ◌+◌, ◌<◌, ◌≤◌, Bool, true, false, List, [], ◌∷◌, length, get_or, drop, ℤ, pos, sym, refl, ap, ◌∙◌, arith}
-use Rattle.std.proofs.lemmas.List.{at_drop_more, at_drop_all, length-set}
+use Rattle.std.proofs.lemmas.List.{at_drop_more, at_drop_all}
 use Rattle.std.specs.List.{AllByRecursion}
 use Rattle.std.proofs.lemmas.Bool.{both_ways, false≢true}
 use Rattle.sat.specs.Formula.{variable, is_zero, is_true}
@@ -72,16 +72,16 @@ assumed_keeps values [] y h t = t
 assumed_keeps values (z ∷ zs) y h t =
     keeps_by values z y zs (reads values.slots z) refl h.0.0 t (assumed_keeps (assigned values z) zs y h.1) (assumed_keeps values zs y h.1 t)
 
-true_by : (values : Values) → length values.slots ≡ LARGEST + 1 → (z : ℤ) (zs : List ℤ) (v : Value) → reads values.slots z ≡ v → AllByRecursion (Names LARGEST) (z ∷ zs) → by_value v (unopposed (assigned values z) zs) (unopposed values zs) false ≡ true →
+true_by : (values : Values) (z : ℤ) (zs : List ℤ) (v : Value) → reads values.slots z ≡ v → AllByRecursion (Names LARGEST) (z ∷ zs) → by_value v (unopposed (assigned values z) zs) (unopposed values zs) false ≡ true →
     (unopposed (assigned values z) zs ≡ true → AllByRecursion (λ y. reads (assumed (assigned values z) zs).slots y ≡ True) zs) → (unopposed values zs ≡ true → AllByRecursion (λ y. reads (assumed values zs).slots y ≡ True) zs) →
     AllByRecursion (λ y. reads (by_value v (assumed (assigned values z) zs) (assumed values zs) values).slots y ≡ True) (z ∷ zs)
-true_by values w z zs Open r h u o t =
-    (assumed_keeps (assigned values z) zs z h.1 (assign_true values.slots z h.0.0 (omega (arith, h.0.1, w))), o u)
-true_by values w z zs True r h u o t = (assumed_keeps values zs z h.1 r, t u)
-true_by values w z zs False r h u o t = absurd (false≢true u)
+true_by values z zs Open r h u o t =
+    (assumed_keeps (assigned values z) zs z h.1 (assign_true values.slots z h.0.0 (omega (arith, h.0.1, values.long))), o u)
+true_by values z zs True r h u o t = (assumed_keeps values zs z h.1 r, t u)
+true_by values z zs False r h u o t = absurd (false≢true u)
 
 -- literals that are not opposed are true in the end
-pub unopposed-true : (values : Values) → length values.slots ≡ LARGEST + 1 → (zs : List ℤ) → AllByRecursion (Names LARGEST) zs → unopposed values zs ≡ true → AllByRecursion (λ z. reads (assumed values zs).slots z ≡ True) zs
-unopposed-true values w [] h u = tt
-unopposed-true values w (z ∷ zs) h u =
-    true_by values w z zs (reads values.slots z) refl h u (unopposed-true (assigned values z) (length-set values.slots (variable z) (truth z) ∙ w) zs h.1) (unopposed-true values w zs h.1)
+pub unopposed-true : (values : Values) (zs : List ℤ) → AllByRecursion (Names LARGEST) zs → unopposed values zs ≡ true → AllByRecursion (λ z. reads (assumed values zs).slots z ≡ True) zs
+unopposed-true values [] h u = tt
+unopposed-true values (z ∷ zs) h u =
+    true_by values z zs (reads values.slots z) refl h u (unopposed-true (assigned values z) zs h.1) (unopposed-true values zs h.1)

@@ -1,4 +1,5 @@
 -- Partial valuations altered.
+use Rattle.std.proofs.Common.{◌∙◌, length-set}
 use Rattle.std.specs.Prelude.{ℕ, Bool, true, false, List, [], ◌∷◌, ℤ, slice_set}
 use Rattle.sat.specs.Formula.{variable}
 use Rattle.scan.specs.Values.{by_value, truth, reads}
@@ -7,7 +8,7 @@ use Rattle.scan.specs.declared.values.Values.{Values}
 
 -- the values with one of them made another
 abbrev pub put : Values → ℕ → Value → Values
-put values n value = record { slots = slice_set values.slots n value }
+put values n value = record { slots = slice_set values.slots n value; long = length-set values.slots n value ∙ values.long }
 
 -- the values with a literal made true
 abbrev pub assigned : Values → ℤ → Values

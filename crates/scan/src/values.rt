@@ -1,6 +1,7 @@
 // A partial valuation of up to LARGEST variables.
-ghost use Rattle.std.specs.Prelude.{◌≡◌, ◌+◌, replicate, slice_index_or};
+ghost use Rattle.std.specs.Prelude.{◌≡◌, ◌+◌, length, replicate, slice_index_or};
 ghost use Rattle.scan.specs.Values.{reads};
+ghost use Rattle.scan.specs.declared.values.TheConstants.{LARGEST};
 
 use crate::value::Value;
 
@@ -15,6 +16,8 @@ const SLOTS: usize = LARGEST + 1;
 #[derive(Clone, Copy)]
 pub struct Values {
     slots: [Value; SLOTS],
+    // an array behind a reference tells its length only where it is read
+    ghost long: { length slots ≡ LARGEST + 1 },
 }
 
 impl Values {

@@ -1,7 +1,6 @@
 -- How a search begins, and what it has found where it ended.
-use Rattle.std.proofs.Common.{◌≡◌, ℕ, ◌+◌, ◌≤◌, true, false, ◌&&◌, List, length, [], replicate, ℤ, Some, None, sym, ap, ◌∙◌, subst, arith}
+use Rattle.std.proofs.Common.{◌≡◌, ℕ, ◌+◌, ◌≤◌, true, false, ◌&&◌, List, [], replicate, ℤ, Some, None, sym, subst, arith}
 use Rattle.std.specs.List.{AllByRecursion}
-use Rattle.std.proofs.lemmas.List.{length-replicate}
 use Rattle.std.proofs.ByRecursion.{All-weaker}
 use Rattle.std.proofs.lemmas.Bool.{and_parts, both_ways}
 use Rattle.sat.specs.Formula.{within, literals, closed}
@@ -44,8 +43,8 @@ module _ (question : Question) (formed : well_formed question.variables question
       both_ways (unopposed blank question.assumed.now) o (agrees_unopposed blank question.assumed.now m models.kept (agrees_blank m))
 
   -- a search may begin
-  pub begins : question.variables ≤ LARGEST → unopposed blank question.assumed.now ≡ true → (values : Values) → values ≡ assumed_on blank question.assumed.now → length values.slots ≡ LARGEST + 1 → Going (started question values)
-  begins bounded u values e l =
+  pub begins : question.variables ≤ LARGEST → unopposed blank question.assumed.now ≡ true → (values : Values) → values ≡ assumed_on blank question.assumed.now → Going (started question values)
+  begins bounded u values e =
       let named : AllByRecursion (Names question.variables) question.assumed.now = named_is question.variables question.formula.now question.assumed.now formed in
       let small : AllByRecursion (Names LARGEST) question.assumed.now =
       All-weaker (Names question.variables) (Names LARGEST) (λ z h. (h.0, omega (arith, h.1))) question.assumed.now named in
@@ -53,14 +52,13 @@ module _ (question : Question) (formed : well_formed question.variables question
         bounded = bounded;
         inside = (behind question.variables question.formula.now question.assumed.now formed).0;
         named = named;
-        slots = l;
         sound = subst (λ (w : Values). Sound question w.slots []) (sym e)
-            (unopposed-true blank (ap length all ∙ length-replicate (LARGEST + 1) Open) question.assumed.now small u, λ m models. assumed_agrees blank question.assumed.now m models.kept (agrees_blank m));
+            (unopposed-true blank question.assumed.now small u, λ m models. assumed_agrees blank question.assumed.now m models.kept (agrees_blank m));
       }
 
 ended_yes : (s : State) → Suits s (Ended Yes) → Answering s.question (Some s.values)
 ended_yes s h =
-    off_models s.question.variables s.values.slots (omega (arith, h.0.bounded, h.0.slots)) h.2 s.question.formula.now s.question.assumed.now h.0.inside h.0.named h.1
+    off_models s.question.variables s.values.slots (omega (arith, h.0.bounded, s.values.long)) h.2 s.question.formula.now s.question.assumed.now h.0.inside h.0.named h.1
     (sound_kept s.question h.0.bounded s.values.slots (newest_first s) h.0.sound)
 
 -- what a search has found that began with a question

@@ -1,6 +1,6 @@
 -- Each step of a search suits the mood that follows, and leaves less.
 use Rattle.std.proofs.Common.{◌≡◌, ℕ, zero, suc, ◌+◌, ◌<◌, ◌≤◌, false, List, [], ◌∷◌, get_or, length, ℤ, pos, negsuc, neg_ℤ, Some, None, Option, sym, refl, ap, ◌∙◌, subst, arith}
-use Rattle.std.proofs.lemmas.List.{length-set, length-reverse, reverse-reverse}
+use Rattle.std.proofs.lemmas.List.{length-reverse, reverse-reverse}
 use Rattle.sat.specs.Formula.{variable, is_zero, clauses_of}
 use Rattle.sat.specs.declared.question.Verdict.{Verdict}
 use Rattle.sat.specs.declared.question.Verdict.TheVariants.{No}
@@ -39,19 +39,18 @@ module _ (s : State) (g : Going s) (e : Entry) (h : Names s.question.variables (
 
   push_room : length s.trail.items < LARGEST + 1
   push_room =
-      omega (arith, length-reverse s.trail.items, sound_room s.question g.bounded s.values.slots (newest_first s) (variable (literal_of e)) g.slots h.1 slot g.sound)
+      omega (arith, length-reverse s.trail.items, sound_room s.question g.bounded s.values.slots (newest_first s) (variable (literal_of e)) s.values.long h.1 slot g.sound)
 
   push_going : Says s.question s.values.slots e → Going (pushed s e)
   push_going y = record {
     bounded = g.bounded;
     inside = g.inside;
     named = g.named;
-    slots = length-set s.values.slots (variable (literal_of e)) (truth (literal_of e)) ∙ g.slots;
-    sound = subst (Sound s.question (pushed s e).values.slots) (sym (newest_pushed s e)) (sound_push s.question g.bounded s.values.slots (newest_first s) e g.slots h o y g.sound);
+    sound = subst (Sound s.question (pushed s e).values.slots) (sym (newest_pushed s e)) (sound_push s.question g.bounded s.values.slots (newest_first s) e s.values.long h o y g.sound);
   }
 
   push_opens : opens (pushed s e).values.slots + 1 ≡ opens s.values.slots
-  push_opens = opens_close s.values.slots (variable (literal_of e)) (truth (literal_of e)) (omega (arith, h.1, g.bounded, g.slots)) slot (truth-closed (literal_of e))
+  push_opens = opens_close s.values.slots (variable (literal_of e)) (truth (literal_of e)) (omega (arith, h.1, g.bounded, s.values.long)) slot (truth-closed (literal_of e))
 
   push_weight : weight (pushed s e) Forcing < weight s Choosing
   push_weight =
@@ -84,12 +83,11 @@ module _ (s : State) (g : Going s) (e : Entry) (older : List Entry) (q : newest_
     bounded = g.bounded;
     inside = g.inside;
     named = g.named;
-    slots = length-set s.values.slots (variable (literal_of e)) Open ∙ g.slots;
     sound = subst (Sound s.question (dropped s e older).values.slots) (sym (reverse-reverse older)) top.3;
   }
 
   drop_opens : opens (dropped s e older).values.slots ≡ opens s.values.slots + 1
-  drop_opens = opens_open s.values.slots (variable (literal_of e)) (omega (arith, top.0.1, g.bounded, g.slots)) (slot-closed s.values.slots (literal_of e) top.1)
+  drop_opens = opens_open s.values.slots (variable (literal_of e)) (omega (arith, top.0.1, g.bounded, s.values.long)) (slot-closed s.values.slots (literal_of e) top.1)
 
   untried_top : untried (opens s.values.slots) (newest_first s) ≡ untried (opens s.values.slots) (e ∷ older)
   untried_top = ap (untried (opens s.values.slots)) q
@@ -183,13 +181,13 @@ pop_room s g e n =
     omega (
       arith,
       length-reverse (popped s).trail.items,
-      sound_count s.question g.bounded s.values.slots (newest_first s) g.slots g.sound,
+      sound_count s.question g.bounded s.values.slots (newest_first s) s.values.long g.sound,
       ap length (top_is s e n),
     )
 
 -- a new place to begin at changes nothing
 placed_going : (s : State) (p : ℕ) → Going s → Going (placed s p)
-placed_going s p g = record { bounded = g.bounded; inside = g.inside; named = g.named; slots = g.slots; sound = g.sound }
+placed_going s p g = record { bounded = g.bounded; inside = g.inside; named = g.named; sound = g.sound }
 
 module _ (s : State) (g : Going s) where
   round-true : Finds s.values.slots (clauses_of s.question.formula.now) (round_of s).found
@@ -257,3 +255,10 @@ pub step_room : (s : State) (mood : Mood) (z : ℤ) → mood ≡ Forcing → Som
 step_room s mood z e f t l g =
     subst (λ (u : State). length u.trail.items < LARGEST + 1) (sym (l ∙ ap (looked s) e))
     (found_room s (subst (Suits s) e g) z (sym (f ∙ ap (seen_by s) e)))
+
+-- and is then entered
+pub step_forced : (s : State) (mood : Mood) (z : ℤ) → mood ≡ Forcing → Some (Forced z) ≡ seen_by s mood → (t : State) → t ≡ looked s mood → pushed t (Implied z) ≡ (stepped s mood).0
+step_forced s mood z e f t l =
+    ap (λ u. pushed u (Implied z)) (l ∙ ap (looked s) e)
+    ∙ ap (λ o. (forced (looked s Forcing) o).0) (f ∙ ap (seen_by s) e)
+    ∙ sym (ap (λ m. (stepped s m).0) e)

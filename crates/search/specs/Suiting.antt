@@ -1,6 +1,6 @@
 -- What holds of a search in each mood, and how much of it is left.
 -- A trail is read newest entry first.
-use Rattle.std.specs.Prelude.{◌≡◌, ℕ, zero, suc, ◌+◌, ◌*◌, ◌≤◌, true, false, List, [], ◌∷◌, length, None, slice_set}
+use Rattle.std.specs.Prelude.{◌≡◌, ℕ, zero, suc, ◌+◌, ◌*◌, ◌≤◌, true, false, List, [], ◌∷◌, None, slice_set}
 use Rattle.std.specs.List.{AllByRecursion}
 use Rattle.sat.specs.Formula.{variable, is_zero, is_true, clauses_of, within}
 use Rattle.sat.specs.declared.question.Question.{Question}
@@ -46,7 +46,6 @@ pub record Going (s : State) : Type 0 where
   pub bounded : s.question.variables ≤ LARGEST
   pub inside : within s.question.variables s.question.formula.now ≡ true
   pub named : AllByRecursion (λ z. (is_zero z ≡ false) × (variable z ≤ s.question.variables)) s.question.assumed.now
-  pub slots : length s.values.slots ≡ LARGEST + 1
   pub sound : Sound s.question s.values.slots (newest_first s)
 
 -- what holds in a mood

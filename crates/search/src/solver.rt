@@ -6,7 +6,7 @@ ghost use Rattle.search.specs.Answers.{Answering};
 
 use crate::state::State;
 use sat::{Question, Refusal, Solver, Verdict};
-use scan::{Value, Values};
+use scan::{LARGEST, Value, Values};
 
 // Between questions a search holds the number of those that it has answered.
 #[derive(Drop)]
@@ -44,7 +44,7 @@ fn values_for(question: Question<'_>) -> Option<Values>
 
 // Writes the values of the variables, a byte each: 1 where it is true.
 fn write_values(values: &Values, valuation: &mut [u8])
-    requires { length valuation.old < length values.now.slots }
+    requires { length valuation.old ≤ LARGEST }
     ensures { valuation.new ≡ read_off (length valuation.old) values.now.slots }
 {
     for (i, byte) in valuation.iter_mut().enumerate() {

@@ -1,14 +1,11 @@
 use Rattle.std.proofs.Common.{sym, ◌∙◌}
-use Rattle.forcing.proofs.Fixes.{formula_small, middle_slots, opposed_none, all_false_none, fixed_from}
+use Rattle.forcing.proofs.Fixes.{formula_small, opposed_none, all_false_none, fixed_from}
 use Rattle.forcing.proofs.fixing.fix.Goals as goal
 use Rattle.forcing.proofs.fixing.fix.Goals.{else-assume-via-then-assume+else-force, else-assume-via-else-assume}
 
 pub force-requires : goal.force-requires
 force-requires c =
-    record {
-      slots = middle_slots c.args.question c.new-values.result c.assume.new.self c.new-values.ensures c.assume.ensures.leaves;
-      bounded = formula_small c.args.question c.requires.formed c.requires.small;
-    }
+    formula_small c.args.question c.requires.formed c.requires.small
 
 pub returns-else-assume : goal.returns-else-assume
 returns-else-assume c =

@@ -1,4 +1,4 @@
-use Rattle.std.proofs.Common.{◌≡◌, ◌<◌, ◌∙◌, Some, length, set, sym, ap, subst, length-set, w16, SFits, rules}
+use Rattle.std.proofs.Common.{◌≡◌, ◌<◌, ◌∙◌, Some, set, sym, ap, subst, w16, SFits, rules}
 use Rattle.std.proofs.lemmas.Int.{to_z-of_z}
 use Rattle.sat.specs.Formula.{variable, clauses_of}
 use Rattle.scan.specs.Values.{truth, opens}
@@ -22,16 +22,15 @@ found c =
 pub loop-literal-smaller : goal.loop-literal-smaller
 loop-literal-smaller c =
     subst (λ slots. opens slots < opens c.loop-literal.values.slots) (sym (after c))
-    (forced_falls c.args.formula.now c.loop-literal.values.slots c.in-Some-Forced.literal c.loop-literal.invariant.slots c.requires.bounded (found c))
+    (forced_falls c.args.formula.now c.loop-literal.values.slots c.in-Some-Forced.literal c.loop-literal.values.long c.requires (found c))
 
 pub loop-literal-preserved : goal.loop-literal-preserved
 loop-literal-preserved c =
     record {
-      slots = ap length (after c) ∙ length-set _ _ _ ∙ c.loop-literal.invariant.slots;
       keeps =
           subst (Keeps c.args.values.now.slots) (sym (after c))
-          (forced_keeps c.args.formula.now c.loop-literal.values.slots c.in-Some-Forced.literal c.loop-literal.invariant.slots c.requires.bounded (found c) c.args.values.now.slots c.loop-literal.invariant.keeps);
+          (forced_keeps c.args.formula.now c.loop-literal.values.slots c.in-Some-Forced.literal c.loop-literal.values.long c.requires (found c) c.args.values.now.slots c.loop-literal.invariant.keeps);
       implies =
           subst (Implies c.args.formula.now c.args.values.now.slots) (sym (after c))
-          (forced_implies c.args.formula.now c.loop-literal.values.slots c.in-Some-Forced.literal c.loop-literal.invariant.slots c.requires.bounded (found c) c.args.values.now.slots c.loop-literal.invariant.implies);
+          (forced_implies c.args.formula.now c.loop-literal.values.slots c.in-Some-Forced.literal c.loop-literal.values.long c.requires (found c) c.args.values.now.slots c.loop-literal.invariant.implies);
     }
