@@ -3,7 +3,7 @@ use Rattle.std.specs.Prelude.{◌≡◌, ℕ, ◌+◌, ◌%◌, ◌^◌, Bool, t
 use Rattle.sat.specs.declared.question.Refusal.{Refusal}
 use Rattle.sat.specs.declared.question.Verdict.{Verdict}
 use Rattle.sat.specs.declared.question.Verdict.TheVariants.{No, Yes}
-use Rattle.sat.specs.Question.{Models, refusal, number}
+use Rattle.sat.specs.Question.{Models, refusal, number, word}
 use Rattle.trials.specs.declared.ask.Failure.{Failure}
 use Rattle.trials.specs.declared.ask.Failure.TheVariants.{Refused, Wrong}
 
@@ -48,6 +48,5 @@ failure_text Wrong = codes "wrong"
 
 -- how what a solver said is printed
 abbrev pub said_text : Result Verdict Failure → List ℕ
-said_text (Ok No) = codes "no"
-said_text (Ok Yes) = codes "yes"
+said_text (Ok verdict) = word verdict
 said_text (Err failure) = failure_text failure

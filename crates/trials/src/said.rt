@@ -14,8 +14,7 @@ impl fmt::Display for Said {
 
     fn fmt<W: fmt::Write>(&self, f: &mut fmt::Formatter<W>) -> fmt::Result {
         match self.0 {
-            Ok(Verdict::No) => write!(f, "no"),
-            Ok(Verdict::Yes) => write!(f, "yes"),
+            Ok(verdict) => write!(f, "{verdict}"),
             Err(failure) => write!(f, "{failure}"),
         }
     }
