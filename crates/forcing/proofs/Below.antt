@@ -4,7 +4,7 @@ use Rattle.std.specs.List.{AllByRecursion}
 use Rattle.std.proofs.ByRecursion.{All-weaker}
 use Rattle.std.proofs.lemmas.Bool.{and_from, ltb-false, le-ltb}
 use Rattle.sat.specs.Formula.{is_true, closed, within, literals}
-use Rattle.sat.specs.Question.{Models, Truth, refusal, well_formed, Solved, Answered}
+use Rattle.sat.specs.Question.{Answers, Models, Truth, refusal, well_formed, Solved, Answered}
 use Rattle.sat.specs.declared.question.Question.{Question}
 use Rattle.sat.specs.declared.question.Refusal.{Refusal}
 use Rattle.sat.specs.declared.question.Verdict.{Verdict}
@@ -46,7 +46,7 @@ module _ (largest v : ℕ) (formula assumed : List ℤ) (room : ℕ) where
       simp (x, y, z)
 
 module _ (question : Question) (values : List Value) (fixed : Fixed question.variables question.formula.now question.assumed.now values) where
-  to_below : (m : List ℕ) → Models question.variables question.formula.now question.assumed.now m → Models question.variables question.formula.now (fixed_up_to values question.variables) m
+  to_below : (m : List ℕ) → Answers question m → Models question.variables question.formula.now (fixed_up_to values question.variables) m
   to_below m s =
       record {
         size = s.size;
@@ -63,7 +63,7 @@ module _ (question : Question) (values : List Value) (fixed : Fixed question.var
   kept_above m (z ∷ zs) k n r = (fixed_has values (λ y. is_true m y ≡ true) question.variables k z n.0 r.0, kept_above m zs k n.1 r.1)
 
   from_below : AllByRecursion (Names question.variables) question.assumed.now → (m : List ℕ) → Models question.variables question.formula.now (fixed_up_to values question.variables) m →
-      Models question.variables question.formula.now question.assumed.now m
+      Answers question m
   from_below n m s = record { size = s.size; bits = s.bits; clauses = s.clauses; kept = kept_above m question.assumed.now s.kept n fixed.keeps }
 
 -- the answer to the question below is one to the question

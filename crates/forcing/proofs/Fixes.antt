@@ -4,7 +4,7 @@ use Rattle.std.specs.List.{AllByRecursion}
 use Rattle.std.proofs.ByRecursion.{All-weaker}
 use Rattle.std.proofs.lemmas.Bool.{and_parts, and_from, both_ways, leb-true, le-leb}
 use Rattle.sat.specs.Formula.{variable, within, literals, closed}
-use Rattle.sat.specs.Question.{Models, well_formed}
+use Rattle.sat.specs.Question.{Answers, well_formed}
 use Rattle.sat.specs.declared.question.Question.{Question}
 use Rattle.scan.specs.Values.{reads, Agrees}
 use Rattle.scan.specs.Edits.{assumed, unopposed}
@@ -52,14 +52,14 @@ module _ (question : Question) (start middle : Values) (fresh : start.slots ≡ 
   start_agrees : (m : List ℕ) → Agrees start.slots m
   start_agrees m = subst (λ slots. Agrees slots m) (sym fresh) (agrees_open (LARGEST + 1) m)
 
-  middle_agrees : (m : List ℕ) → Models question.variables question.formula.now question.assumed.now m → Agrees middle.slots m
+  middle_agrees : (m : List ℕ) → Answers question m → Agrees middle.slots m
   middle_agrees m s = subst (λ x. Agrees x.slots m) (sym leaves) (assumed_agrees start question.assumed.now m s.kept (start_agrees m))
 
-  pub opposed_none : unopposed start question.assumed.now ≡ false → (m : List ℕ) → Models question.variables question.formula.now question.assumed.now m → ⊥
+  pub opposed_none : unopposed start question.assumed.now ≡ false → (m : List ℕ) → Answers question m → ⊥
   opposed_none e m s = both_ways (unopposed start question.assumed.now) e (agrees_unopposed start question.assumed.now m s.kept (start_agrees m))
 
   module _ (after : List Value) where
-    pub all_false_none : Forces question.formula.now middle.slots after false → (m : List ℕ) → Models question.variables question.formula.now question.assumed.now m → ⊥
+    pub all_false_none : Forces question.formula.now middle.slots after false → (m : List ℕ) → Answers question m → ⊥
     all_false_none f m s = conflict_none question.variables question.formula.now question.assumed.now after f.ended m s (f.implies m s.clauses (middle_agrees m s))
 
     pub fixed_from :

@@ -2,7 +2,7 @@
 use Rattle.std.specs.Prelude.{◌≡◌, ℕ, Bool, true, if◌then◌else◌, List, ℤ, Some, None, Option}
 use Rattle.std.specs.List.{AllByRecursion}
 use Rattle.sat.specs.Formula.{satisfied, clauses_of}
-use Rattle.sat.specs.Question.{Models}
+use Rattle.sat.specs.Question.{Answers, Models}
 use Rattle.sat.specs.declared.question.Question.{Question}
 use Rattle.scan.specs.Values.{reads, Agrees}
 use Rattle.scan.specs.Rounds.{Finds}
@@ -32,5 +32,5 @@ pub record Lists (v : ℕ) (formula assumed listed : List ℤ) : Type 0 where
 
 -- the list is of all that is fixed of the question, and where there is none the question has no model
 abbrev pub Fixes : Question → Option (ArrayVec ℤ) → Type 0
-Fixes question None = (m : List ℕ) → Models question.variables question.formula.now question.assumed.now m → ⊥
+Fixes question None = (m : List ℕ) → Answers question m → ⊥
 Fixes question (Some listed) = Lists question.variables question.formula.now question.assumed.now listed.items

@@ -1,10 +1,10 @@
 // Whether one valuation answers a question.
-ghost use Rattle.std.specs.Prelude.{◌≡◌, ◌<◌, [], ◌∷◌, length, position, IfSome, IfNone};
+ghost use Rattle.std.specs.Prelude.{◌≡◌};
 ghost use Rattle.std.specs.List.{list_any};
-ghost use Rattle.sat.specs.Formula.{is_true, is_zero, every, satisfied, clauses_of};
+ghost use Rattle.sat.specs.Formula.{is_true, every, clauses_of};
 ghost use Rattle.odometer.specs.Candidate.{all_satisfied, answers_all};
 
-use sat::Question;
+use sat::{Question, split_clause};
 
 // The literal is true; a variable behind the bytes counts as 0.
 fn is_true(values: &[u8], z: i16) -> bool
@@ -27,24 +27,6 @@ fn is_satisfied(values: &[u8], clause: &[i16]) -> bool
     ensures { result ≡ list_any (is_true values.now) clause.now }
 {
     clause.iter().any(|z| is_true(values, *z))
-}
-
-// The place of the 0 that ends the first clause.
-fn first_end(formula: &[i16]) -> Option<usize>
-    ensures { result ≡ position is_zero formula.now }
-{
-    formula.iter().position(|z| *z == 0)
-}
-
-// The first clause, and the numbers behind its 0.
-#[tactic(auto, using(crate::proofs::Clauses::clauses_first, crate::proofs::Clauses::clauses_none, std::proofs::lemmas::Grind::common_steps))]
-fn split_clause(formula: &[i16]) -> Option<(&[i16], &[i16])>
-    ensures none { IfNone result (clauses_of formula.now ≡ []) }
-    ensures first { IfSome result (λ parts. clauses_of formula.now ≡ parts.0.now ∷ clauses_of parts.1.now) }
-    ensures shorter { IfSome result (λ parts. length parts.1.now < length formula.now) }
-{
-    let end = first_end(formula)?;
-    Some((&formula[..end], &formula[end + 1..]))
 }
 
 // Every clause has a true literal. Numbers behind the last 0 belong to no clause.

@@ -16,6 +16,10 @@ pub record Models (v : ℕ) (formula assumed : List ℤ) (values : List ℕ) : T
   pub clauses : AllByRecursion (λ clause. satisfied values clause ≡ true) (clauses_of formula)
   pub kept : AllByRecursion (λ z. is_true values z ≡ true) assumed
 
+-- the valuation answers a question that is put to a solver
+abbrev pub Answers : Question → List ℕ → Type 0
+Answers question values = Models question.variables question.formula.now question.assumed.now values
+
 -- a question is well formed: the formula is empty or ends with 0, no literal names a variable above v, no assumed literal is 0
 abbrev pub well_formed : ℕ → List ℤ → List ℤ → Bool
 well_formed v formula assumed = closed formula && (within v formula && (within v assumed && literals assumed))

@@ -6,6 +6,5 @@ pub mod Counting
 pub mod Finding
 pub mod Literals
 pub mod Meaning
-pub mod Places
 pub mod Rounds
 pub mod Steps

@@ -1,6 +1,6 @@
 -- What is so of a clause by its judgement.
-use Rattle.std.proofs.Common.{◌≡◌, true, false, cond, ◌||◌, ◌⊎◌, List, [], ◌∷◌, ℤ, Some, None, sym, refl, subst, inl, inr, ⊎_elim, arith}
-use Rattle.std.specs.List.{ContainsAt, AllByRecursion, slice_get}
+use Rattle.std.proofs.Common.{◌≡◌, true, false, cond, ◌||◌, ◌⊎◌, List, [], ◌∷◌, ℤ, Some, sym, refl, inl, inr, ⊎_elim, arith}
+use Rattle.std.specs.List.{ContainsAt, AllByRecursion}
 use Rattle.std.proofs.ByRecursion.{All-weaker, all-has, all_has_itself, all_kept_by, kept_by_passes, has_get_or, has_append_right}
 use Rattle.std.proofs.lemmas.Bool.{and_parts, cond_both}
 use Rattle.std.proofs.lemmas.Bool.Decides.{Decides-int_eq}
@@ -86,11 +86,6 @@ module _ (values : List Value) where
       cond_both (held values clause) Satisfied (by_open (open_in values clause)) (Means values clause) (held_in clause)
       (λ e. means_open clause (open_in values clause) (opens_in clause) (rest_in clause e))
 
-  -- what is told of the first clause by its judgement, and of no clause
-  pub told_first : (clauses : List (List ℤ)) (r : Reading) (clause : List ℤ) → Some clause ≡ slice_get clauses 0 → r.standing ≡ judged values clause → Told values clauses (Some r)
-  told_first [] r clause f e = cc
-  told_first (first ∷ clauses) r clause f e = let g : r.standing ≡ judged values first = cc in subst (Means values first) (sym g) (judged_means first)
-
-  pub told_none : (clauses : List (List ℤ)) → None ≡ slice_get clauses 0 → Told values clauses None
-  told_none [] e = refl
-  told_none (first ∷ clauses) e = cc
+  -- what is told of the first clause by its judgement
+  pub told_first : (clauses : List (List ℤ)) (r : Reading) (clause : List ℤ) (later : List (List ℤ)) → clauses ≡ clause ∷ later → r.standing ≡ judged values clause → Told values clauses (Some r)
+  told_first clauses r clause later f e = rw f (rw e (judged_means clause))

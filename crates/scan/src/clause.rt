@@ -1,11 +1,11 @@
 // One clause read under a partial valuation.
-ghost use Rattle.std.specs.Ordering.{int_eq};
-ghost use Rattle.std.specs.Prelude.{◌≡◌, drop, option_copied, pos, position, slice_get};
+ghost use Rattle.std.specs.Prelude.{◌≡◌, drop};
 ghost use Rattle.sat.specs.Formula.{clauses_of};
 ghost use Rattle.scan.specs.Clauses.{Told, judged, reading, with_open};
 
 use crate::value::Value;
 use crate::values::Values;
+use sat::split_clause;
 
 #[derive(Clone, Copy, PartialEq, Eq, Debug)]
 pub enum Standing {
@@ -55,28 +55,12 @@ pub struct Reading {
     pub next: usize,
 }
 
-// Where the first 0 stands.
-fn first_zero(numbers: &[i16]) -> Option<usize>
-    ensures { result ≡ position (λ z. int_eq z (pos 0)) numbers.now }
-{
-    numbers.iter().position(|number| *number == 0)
-}
-
-// The literals of the clause that begins at a place.
-fn clause_at(numbers: &[i16], place: usize) -> Option<&[i16]>
-    ensures { option_copied result ≡ slice_get (clauses_of (drop place numbers.now)) 0 }
-{
-    let rest = numbers.get(place..)?;
-    let end = first_zero(rest)?;
-    Some(&rest[..end])
-}
-
 // Reads the clause that begins at a place. Numbers without a 0 are no clause.
 pub fn read_clause(values: &Values, numbers: &[i16], place: usize) -> Option<Reading>
     ensures exact { result ≡ reading values.now.slots place (clauses_of (drop place numbers.now)) }
     ensures means { Told values.now.slots (clauses_of (drop place numbers.now)) result }
 {
-    let clause = clause_at(numbers, place)?;
+    let (clause, _) = split_clause(numbers.get(place..)?)?;
     Some(Reading {
         standing: Standing::of(clause, values),
         next: place + clause.len() + 1,

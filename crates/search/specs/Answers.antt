@@ -1,13 +1,9 @@
 -- What a search finds.
 use Rattle.std.specs.Prelude.{ℕ, List, Some, None, Option}
-use Rattle.sat.specs.Question.{Models}
+use Rattle.sat.specs.Question.{Answers}
 use Rattle.sat.specs.declared.question.Question.{Question}
 use Rattle.scan.specs.Values.{read_off}
 use Rattle.scan.specs.declared.values.Values.{Values}
-
--- the valuation answers the question
-abbrev pub Answers : Question → List ℕ → Type 0
-Answers question valuation = Models question.variables question.formula.now question.assumed.now valuation
 
 -- values from which a valuation is read off that answers the question, or none where no valuation does
 abbrev pub Answering : Question → Option Values → Type 0

@@ -3,6 +3,7 @@
 use Rattle.std.specs.Prelude.{◌≡◌, ℕ, zero, suc, ◌+◌, ◌*◌, ◌≤◌, true, false, List, [], ◌∷◌, None, slice_set}
 use Rattle.std.specs.List.{AllByRecursion}
 use Rattle.sat.specs.Formula.{variable, is_zero, is_true, clauses_of, within}
+use Rattle.sat.specs.Question.{Answers}
 use Rattle.sat.specs.declared.question.Question.{Question}
 use Rattle.sat.specs.declared.question.Verdict.TheVariants.{Yes, No}
 use Rattle.scan.specs.Values.{reads, Agrees, Closed, opens}
@@ -10,7 +11,6 @@ use Rattle.scan.specs.Rounds.{Finds}
 use Rattle.scan.specs.declared.value.Value.{Value}
 use Rattle.scan.specs.declared.value.Value.TheVariants.{Open, True}
 use Rattle.scan.specs.declared.values.TheConstants.{LARGEST}
-use Rattle.search.specs.Answers.{Answers}
 use Rattle.search.specs.States.{literal_of, newest_first}
 use Rattle.search.specs.declared.state.Entry.{Entry}
 use Rattle.search.specs.declared.state.Entry.TheVariants.{Implied, Choice}

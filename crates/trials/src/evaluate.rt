@@ -1,6 +1,6 @@
 // Evaluating a question under the valuation with which a buffer begins.
 ghost use Rattle.std.specs.Prelude.{◌≤◌, ◌↔◌, take, IsTrue, All};
-ghost use Rattle.sat.specs.Question.{Models};
+ghost use Rattle.sat.specs.Question.{Answers};
 
 use odometer::answers;
 use sat::Question;
@@ -13,7 +13,7 @@ fn all_bits(values: &[u8]) -> bool
 
 // The first bytes of the buffer are a valuation that answers the question.
 pub fn evaluate(question: Question<'_>, valuation: &[u8]) -> bool
-    ensures { IsTrue result ↔ Models question.entry.variables question.entry.formula.now question.entry.assumed.now (take question.entry.variables valuation.now) }
+    ensures { IsTrue result ↔ Answers question.entry (take question.entry.variables valuation.now) }
 {
     let Some(values) = valuation.get(..question.variables) else {
         return false;
