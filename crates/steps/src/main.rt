@@ -95,7 +95,10 @@ fn main(rt: HostRuntime) -> io::Result<()> {
     println!(rt; "seal: {nets} nets")?;
     println!(rt; "measure: {}", sealed.measure())?;
     let mut numbers = [0; 132];
-    println!(rt; "formula: {}", Outcome(formula(&sealed, &mut numbers).map(Count)))?;
+    println!(rt;
+        "formula: {}",
+        Outcome(formula(&sealed, &mut numbers).map(Count))
+    )?;
     println!(rt; "its first clauses:{}", Front(&numbers))?;
     let mut solver = Forcing::new(Search::new());
     let mut valuation = [0; 12];
@@ -104,7 +107,10 @@ fn main(rt: HostRuntime) -> io::Result<()> {
         formula: &numbers,
         assumed: &[],
     };
-    println!(rt; "question: {}", Outcome(solver.solve(question, &mut valuation)))?;
+    println!(rt;
+        "question: {}",
+        Outcome(solver.solve(question, &mut valuation))
+    )?;
     let at_a = Question {
         assumed: &[1, 3, 5],
         ..question
