@@ -41,7 +41,7 @@ impl Rack {
     {
         subset_count(
             self.table.load(chip) as usize,
-            self.sizes.pins() as usize + 1,
+            usize::from(self.sizes.pins()) + 1,
         )
         .unwrap()
     }

@@ -1,7 +1,7 @@
 // Fixing what assumed literals force.
 ghost use Rattle.std.specs.Prelude.{◌≡◌, ◌+◌, ◌≤◌, true, length};
 ghost use Rattle.sat.specs.Formula.{within};
-ghost use Rattle.sat.specs.Question.{well_formed};
+ghost use Rattle.sat.specs.Question.{is_well_formed};
 ghost use Rattle.forcing.specs.Fixing.{Forces, Fixes};
 
 use crate::listing::fixed_literals;
@@ -30,7 +30,7 @@ fn force(values: &mut Values, formula: &[i16]) -> bool
 // The literals that are fixed, or None where assumed literals are opposed or a clause is all false.
 pub(crate) fn fix(question: Question<'_>) -> Option<ArrayVec<i16, LARGEST>>
     requires small { question.variables ≤ LARGEST }
-    requires formed { well_formed question.variables question.formula.now question.assumed.now ≡ true }
+    requires formed { is_well_formed question ≡ true }
     ensures { Fixes question.entry result }
 {
     let mut values = Values::new();

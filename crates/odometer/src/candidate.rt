@@ -10,7 +10,7 @@ use sat::{Question, split_clause};
 fn is_true(values: &[u8], z: i16) -> bool
     ensures { result ≡ is_true values.now z }
 {
-    let Some(place) = (z.unsigned_abs() as usize).checked_sub(1) else {
+    let Some(place) = usize::from(z.unsigned_abs()).checked_sub(1) else {
         return false;
     };
     let byte = values.get(place).copied().unwrap_or(0);

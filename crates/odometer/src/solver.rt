@@ -13,7 +13,7 @@ pub struct Odometer {
 
 impl Odometer {
     pub fn new() -> Odometer
-        ensures { ⟦<Odometer as Solver>⟧.tally result ≡ 0 }
+        ensures { result.tally ≡ 0 }
     {
         Odometer { tally: 0 }
     }

@@ -32,6 +32,13 @@ refusal largest v formula assumed room =
     else (if nat_lt room v then Some (ShortValuation v)
     else None))
 
+-- the same two of a question that is put to a solver
+abbrev pub is_well_formed : Question → Bool
+is_well_formed question = well_formed question.variables question.formula.now question.assumed.now
+
+abbrev pub refusal_of : (largest : ℕ) → Question → (room : ℕ) → Option Refusal
+refusal_of largest question room = refusal largest question.variables question.formula.now question.assumed.now room
+
 -- the number of each refusal
 abbrev pub number : Refusal → ℕ
 number TooManyVariables = 9

@@ -2,7 +2,7 @@
 ghost use Rattle.std.specs.Prelude.{◌≡◌, ◌++◌, Some, codes, decimal};
 ghost use Rattle.std.specs.Result.{result_err};
 ghost use Rattle.sat.specs.Formula.{within, literals, closed};
-ghost use Rattle.sat.specs.Question.{refusal, well_formed, number, word};
+ghost use Rattle.sat.specs.Question.{refusal_of, is_well_formed, number, word};
 
 use std::error::Error;
 use std::fmt;
@@ -75,7 +75,7 @@ fn is_within(variables: usize, numbers: &[i16]) -> bool
 {
     numbers
         .iter()
-        .all(|z| z.unsigned_abs() as usize <= variables)
+        .all(|z| usize::from(z.unsigned_abs()) <= variables)
 }
 
 // No number of the list is 0.
@@ -94,7 +94,7 @@ fn is_closed(formula: &[i16]) -> bool
 
 impl Question<'_> {
     fn is_well_formed(self) -> bool
-        ensures { result ≡ well_formed self.entry.variables self.entry.formula.now self.entry.assumed.now }
+        ensures { result ≡ is_well_formed self.entry }
     {
         is_closed(self.formula)
             && is_within(self.variables, self.formula)
@@ -104,7 +104,7 @@ impl Question<'_> {
 
     // Declines the question where a solver of this largest does, with so many bytes for the valuation.
     pub fn judge(self, largest: usize, room: usize) -> Result<(), Refusal>
-        ensures { result_err result ≡ refusal largest self.entry.variables self.entry.formula.now self.entry.assumed.now room }
+        ensures { result_err result ≡ refusal_of largest self.entry room }
     {
         if self.variables > largest {
             return Err(Refusal::TooManyVariables);

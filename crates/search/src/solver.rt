@@ -1,6 +1,6 @@
 // The search as a solver.
 ghost use Rattle.std.specs.Prelude.{◌≡◌, ◌<◌, ◌≤◌, true, length};
-ghost use Rattle.sat.specs.Question.{well_formed};
+ghost use Rattle.sat.specs.Question.{is_well_formed};
 ghost use Rattle.scan.specs.Values.{read_off};
 ghost use Rattle.search.specs.Answers.{Answering};
 
@@ -28,7 +28,7 @@ impl Search {
 // The values of the variables in a valuation that answers the question, if there is one.
 fn values_for(question: Question<'_>) -> Option<Values>
     requires bounded { question.variables ≤ Search.LARGEST }
-    requires formed { well_formed question.variables question.formula.now question.assumed.now ≡ true }
+    requires formed { is_well_formed question ≡ true }
     ensures { Answering question.entry result }
 {
     let mut values = Values::new();

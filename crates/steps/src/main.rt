@@ -12,7 +12,7 @@ use sat::{Question, Solver};
 use search::Search;
 use show::{Count, Front, Outcome};
 use std::io;
-use step::take;
+use step::apply;
 
 // Six nets on three chips, with some corrections on the way.
 const EDITS: [Edit; 16] = [
@@ -77,10 +77,33 @@ const NETLIST: &[u8] = b"B 3 2 2\nN 1 1 2\nN 2 1 2\nN 3 2 3\nN 4 2 3\nN 5 1 3\nN
 
 const DAMAGED: &[u8] = b"B 3 2 2\nN 1 1 2\nN 2 1  2\n";
 
+// Asks a solver about the formula, with nothing assumed and with three nets at FPIC A.
+fn ask(rt: &impl Print, formula: &[i16]) -> io::Result<()> {
+    let mut solver = Forcing::new(Search::new());
+    let mut valuation = [0; 12];
+    let question = Question {
+        variables: 12,
+        formula,
+        assumed: &[],
+    };
+    println!(rt;
+        "question: {}",
+        Outcome(solver.solve(question, &mut valuation))
+    )?;
+    let at_a = Question {
+        assumed: &[1, 3, 5],
+        ..question
+    };
+    println!(rt;
+        "with nets 1, 2 and 3 at FPIC A: {}",
+        Outcome(solver.solve(at_a, &mut valuation))
+    )
+}
+
 fn main(rt: HostRuntime) -> io::Result<()> {
     let mut board = OpenBoard::blank();
     for edit in EDITS {
-        println!(rt; "{}", take(&mut board, edit))?;
+        println!(rt; "{}", apply(&mut board, edit))?;
     }
     println!(rt;
         "read a damaged netlist: {}",
@@ -100,26 +123,8 @@ fn main(rt: HostRuntime) -> io::Result<()> {
         Outcome(formula(&sealed, &mut numbers).map(Count))
     )?;
     println!(rt; "its first clauses:{}", Front(&numbers))?;
-    let mut solver = Forcing::new(Search::new());
-    let mut valuation = [0; 12];
-    let question = Question {
-        variables: 12,
-        formula: &numbers,
-        assumed: &[],
-    };
-    println!(rt;
-        "question: {}",
-        Outcome(solver.solve(question, &mut valuation))
-    )?;
-    let at_a = Question {
-        assumed: &[1, 3, 5],
-        ..question
-    };
-    println!(rt;
-        "with nets 1, 2 and 3 at FPIC A: {}",
-        Outcome(solver.solve(at_a, &mut valuation))
-    )?;
+    ask(&rt, &numbers)?;
     let mut board = sealed.reopen();
     println!(rt; "reopen")?;
-    println!(rt; "{}", take(&mut board, Edit::Lock { net: 1, letter: 1 }))
+    println!(rt; "{}", apply(&mut board, Edit::Lock { net: 1, letter: 1 }))
 }

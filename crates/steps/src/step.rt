@@ -13,7 +13,7 @@ pub struct Step {
 }
 
 // Edits the board, and keeps what came of it.
-pub fn take(board: &mut OpenBoard, edit: Edit) -> Step
+pub fn apply(board: &mut OpenBoard, edit: Edit) -> Step
     ensures records { result ≡ record { edit = edit; answer = answer (judged (held_open board.old) edit) } }
     ensures leaves { held_open board.new ≡ after (held_open board.old) edit }
 {

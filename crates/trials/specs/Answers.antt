@@ -1,5 +1,6 @@
 -- Which answer to a question is right, and how it is printed.
 use Rattle.std.specs.Prelude.{◌≡◌, ℕ, ◌+◌, ◌%◌, ◌^◌, Bool, true, false, List, [], ◌++◌, ℤ, Some, None, Ok, Err, Result, codes, decimal}
+use Rattle.sat.specs.declared.question.Question.{Question}
 use Rattle.sat.specs.declared.question.Refusal.{Refusal}
 use Rattle.sat.specs.declared.question.Verdict.{Verdict}
 use Rattle.sat.specs.declared.question.Verdict.TheVariants.{No, Yes}
@@ -17,6 +18,10 @@ Right largest v formula assumed room (Ok No) = (refusal largest v formula assume
 Right largest v formula assumed room (Ok Yes) = (refusal largest v formula assumed room ≡ None) × Answerable v formula assumed
 Right largest v formula assumed room (Err (Refused e)) = refusal largest v formula assumed room ≡ Some e
 Right largest v formula assumed room (Err Wrong) = ⊥
+
+-- the same of a question that is put to a solver
+abbrev pub RightOf : (largest : ℕ) → Question → (room : ℕ) → Result Verdict Failure → Type 0
+RightOf largest question room r = Right largest question.variables question.formula.now question.assumed.now room r
 
 -- true or false by whether some valuation satisfies every clause, where the solver does not refuse the question
 abbrev pub Settled : (largest v : ℕ) (formula : List ℤ) (room : ℕ) → Result Bool Refusal → Type 0

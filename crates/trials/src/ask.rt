@@ -1,7 +1,7 @@
 // One question to any solver, a yes checked by evaluating.
 ghost use Rattle.std.specs.Prelude.{◌≡◌, length, drop, Some};
 ghost use Rattle.trials.specs.declared.ask.Failure.TheVariants.{Refused};
-ghost use Rattle.trials.specs.Answers.{Right, counted, is_answered, failure_text};
+ghost use Rattle.trials.specs.Answers.{RightOf, counted, is_answered, failure_text};
 
 use crate::evaluate::evaluate;
 use sat::{Question, Refusal, Solver, Verdict};
@@ -41,7 +41,7 @@ pub fn ask<S: Solver>(
     question: Question<'_>,
     valuation: &mut [u8],
 ) -> Result<Verdict, Failure>
-    ensures right { Right (S.Solver.largest solver.old) question.entry.variables question.entry.formula.now question.entry.assumed.now (length valuation.old) result }
+    ensures right { RightOf (S.Solver.largest solver.old) question.entry (length valuation.old) result }
     ensures counts { S.Solver.tally solver.new ≡ counted (is_answered result) (S.Solver.tally solver.old) }
     ensures keeps { S.Solver.largest solver.new ≡ S.Solver.largest solver.old }
     ensures behind { drop question.entry.variables valuation.new ≡ drop question.entry.variables valuation.old }

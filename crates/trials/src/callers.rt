@@ -1,6 +1,6 @@
 // Callers that know a solver by its promise alone.
 ghost use Rattle.std.specs.Prelude.{◌≡◌, ◌↔◌, length, drop, is_ok, None, IsTrue};
-ghost use Rattle.sat.specs.Question.{refusal};
+ghost use Rattle.sat.specs.Question.{refusal_of};
 ghost use Rattle.trials.specs.Answers.{Settled, counted};
 
 use sat::{Question, Refusal, Solver, Verdict};
@@ -32,7 +32,7 @@ pub fn agree<S: Solver, T: Solver>(
     question: Question<'_>,
     valuation: &mut [u8],
 ) -> bool
-    ensures { IsTrue result ↔ ((refusal (S.Solver.largest one.old) question.entry.variables question.entry.formula.now question.entry.assumed.now (length valuation.old) ≡ None) × (refusal (T.Solver.largest other.old) question.entry.variables question.entry.formula.now question.entry.assumed.now (length valuation.old) ≡ None)) }
+    ensures { IsTrue result ↔ ((refusal_of (S.Solver.largest one.old) question.entry (length valuation.old) ≡ None) × (refusal_of (T.Solver.largest other.old) question.entry (length valuation.old) ≡ None)) }
 {
     let Ok(first) = one.solve(question, valuation) else {
         return false;

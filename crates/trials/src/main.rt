@@ -2,7 +2,7 @@
 #![tactic(auto)]
 
 ghost use Rattle.std.specs.Prelude.{min, length};
-ghost use Rattle.trials.specs.Answers.{Right};
+ghost use Rattle.trials.specs.Answers.{RightOf};
 
 mod ask;
 mod callers;
@@ -22,7 +22,7 @@ use trial::{TRIALS, Trial};
 
 // Asks with as many bytes of the buffer as the trial has room for.
 fn put<S: Solver>(trial: &Trial, solver: &mut S, buffer: &mut [u8]) -> Result<Verdict, Failure>
-    ensures { Right (S.Solver.largest solver.old) trial.now.question.variables trial.now.question.formula.now trial.now.question.assumed.now (min trial.now.room (length buffer.old)) result }
+    ensures { RightOf (S.Solver.largest solver.old) trial.now.question (min trial.now.room (length buffer.old)) result }
 {
     let room = trial.room.min(buffer.len());
     ask(solver, trial.question, &mut buffer[..room])
