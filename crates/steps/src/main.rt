@@ -1,6 +1,8 @@
 // Drives the library through one task, from a blank board to a question about its formula, and prints each step.
 #![tactic(auto)]
 
+ghost use Rattle.std.specs.Prelude.{◌≡◌};
+
 mod show;
 mod step;
 
@@ -77,27 +79,15 @@ const NETLIST: &[u8] = b"B 3 2 2\nN 1 1 2\nN 2 1 2\nN 3 2 3\nN 4 2 3\nN 5 1 3\nN
 
 const DAMAGED: &[u8] = b"B 3 2 2\nN 1 1 2\nN 2 1  2\n";
 
-// Asks a solver about the formula, with nothing assumed and with three nets at FPIC A.
-fn ask(rt: &impl Print, formula: &[i16]) -> io::Result<()> {
-    let mut solver = Forcing::new(Search::new());
-    let mut valuation = [0; 12];
-    let question = Question {
+// The question about the six nets' formula, of twelve variables.
+fn question<'q>(formula: &'q [i16], assumed: &'q [i16]) -> Question<'q>
+    ensures { result ≡ record { variables = 12; formula = formula.entry; assumed = assumed.entry } }
+{
+    Question {
         variables: 12,
         formula,
-        assumed: &[],
-    };
-    println!(rt;
-        "question: {}",
-        Outcome(solver.solve(question, &mut valuation))
-    )?;
-    let at_a = Question {
-        assumed: &[1, 3, 5],
-        ..question
-    };
-    println!(rt;
-        "with nets 1, 2 and 3 at FPIC A: {}",
-        Outcome(solver.solve(at_a, &mut valuation))
-    )
+        assumed,
+    }
 }
 
 fn main(rt: HostRuntime) -> io::Result<()> {
@@ -123,7 +113,16 @@ fn main(rt: HostRuntime) -> io::Result<()> {
         Outcome(formula(&sealed, &mut numbers).map(Count))
     )?;
     println!(rt; "its first clauses:{}", Front(&numbers))?;
-    ask(&rt, &numbers)?;
+    let mut solver = Forcing::new(Search::new());
+    let mut valuation = [0; 12];
+    println!(rt;
+        "question: {}",
+        Outcome(solver.solve(question(&numbers, &[]), &mut valuation))
+    )?;
+    println!(rt;
+        "with nets 1, 2 and 3 at FPIC A: {}",
+        Outcome(solver.solve(question(&numbers, &[1, 3, 5]), &mut valuation))
+    )?;
     let mut board = sealed.reopen();
     println!(rt; "reopen")?;
     println!(rt; "{}", apply(&mut board, Edit::Lock { net: 1, letter: 1 }))
