@@ -115,12 +115,8 @@ numbers_all ranking = sym (encode_joined (block_at ranking) (range_with_len 0 (b
 
 -- ---- the lines of a block
 
-pub lines_at : Ranking → ℕ → List ℕ
+unfoldable pub lines_at : Ranking → ℕ → List ℕ
 lines_at ranking index = flat_map line_of (block_at ranking index)
-
-pub lines_are : (ranking : Ranking) (index : ℕ) → lines_at ranking index ≡ flat_map line_of (block_at ranking index)
-unfolding lines_at
-lines_are ranking index = refl
 
 pub lines_all : (ranking : Ranking) → flat_map (lines_at ranking) (range_with_len 0 (block_count ranking)) ≡ flat_map line_of (all_blocks ranking)
 unfolding lines_at all_blocks

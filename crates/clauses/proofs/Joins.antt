@@ -1,7 +1,7 @@
 -- Lists that are joined along a count.
-use Rattle.std.proofs.Common.{◌≡◌, ℕ, zero, suc, ◌+◌, ◌-◌, ◌*◌, ◌/◌, ◌%◌, ◌<◌, ◌≤◌, List, [], ◌∷◌, ◌++◌, length, get_or, take, drop, sym, refl, ap, ◌∙◌, ap₂, add-zero, suc-mul, add-mul, zero-add, zero-mul, arith}
+use Rattle.std.proofs.Common.{◌≡◌, ℕ, zero, suc, ◌+◌, ◌-◌, ◌*◌, ◌/◌, ◌%◌, ◌<◌, ◌≤◌, List, [], ◌∷◌, ◌++◌, length, get_or, take, sym, refl, ap, ◌∙◌, ap₂, add-zero, suc-mul, add-mul, zero-add, zero-mul, arith}
 use Rattle.std.proofs.lemmas.Nat.{div-mul-add, mod-mul-add}
-use Rattle.std.proofs.lemmas.List.{append-nil, length-append, take-append-drop, take_more}
+use Rattle.std.proofs.lemmas.List.{append-nil, length-append, take_more}
 use Rattle.std.proofs.lemmas.List.Concat.{flat_map-append}
 use Rattle.std.specs.List.{range_with_len, flat_map}
 
@@ -56,20 +56,9 @@ module _ {Y : Type 0} where
         length-append (flat_map f (range_with_len 0 (i + 1))) (flat_map f (range_with_len (0 + (i + 1)) (n - (i + 1)))),
       )
 
-module _ {X Y : Type 0} (f : X → List Y) (xs : List X) (i : ℕ) (d : X) (inside : i < length xs) where
-  -- the same along a list
-  pub joined_take_more : flat_map f (take (i + 1) xs) ≡ flat_map f (take i xs) ++ f (get_or xs i d)
-  joined_take_more = ap (flat_map f) (take_more xs i d inside) ∙ flat_map-append f (take i xs) (get_or xs i d ∷ []) ∙ ap (λ l. flat_map f (take i xs) ++ l) (append-nil (f (get_or xs i d)))
-
-  pub joined_take_room : length (flat_map f (take i xs)) + length (f (get_or xs i d)) ≤ length (flat_map f xs)
-  joined_take_room =
-      omega (
-        arith,
-        ap length joined_take_more,
-        length-append (flat_map f (take i xs)) (f (get_or xs i d)),
-        ap length (sym (ap (flat_map f) (take-append-drop (i + 1) xs)) ∙ flat_map-append f (take (i + 1) xs) (drop (i + 1) xs)),
-        length-append (flat_map f (take (i + 1) xs)) (flat_map f (drop (i + 1) xs)),
-      )
+-- the same along a list
+pub joined_take_more : {X Y : Type 0} (f : X → List Y) (xs : List X) (i : ℕ) (d : X) → i < length xs → flat_map f (take (i + 1) xs) ≡ flat_map f (take i xs) ++ f (get_or xs i d)
+joined_take_more f xs i d inside = ap (flat_map f) (take_more xs i d inside) ∙ flat_map-append f (take i xs) (get_or xs i d ∷ []) ∙ ap (λ l. flat_map f (take i xs) ++ l) (append-nil (f (get_or xs i d)))
 
 -- joined twice
 pub joined_joined : {X Y Z : Type 0} (g : Y → List Z) (f : X → List Y) (xs : List X) → flat_map g (flat_map f xs) ≡ flat_map (λ x. flat_map g (f x)) xs

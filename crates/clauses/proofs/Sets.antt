@@ -2,8 +2,9 @@
 use Rattle.std.proofs.Common.{◌≡◌, ℕ, zero, suc, ◌-◌, ◌<◌, List, [], ◌∷◌, ◌++◌, map, length, get_or, take, ℤ, pos, sym, refl, ap, ◌∙◌, ap₂, arith}
 use mathlib.Core.List.{map-map}
 use Rattle.std.proofs.lemmas.List.{append_assoc, append-nil, length_push, map-append, map-id, take_at}
+use Rattle.std.proofs.lemmas.List.FromFn.{fill_by_all}
 use Rattle.std.proofs.lemmas.Slice.{between_to_end}
-use Rattle.std.specs.List.{between, flat_map}
+use Rattle.std.specs.List.{between, flat_map, range_with_len}
 use Rattle.sat.specs.Formula.{encode}
 use Rattle.subsets.specs.Choose.{choose}
 use Rattle.clauses.specs.Sets.{set_numbers}
@@ -72,6 +73,10 @@ mapped_by_index f [] [] e same = refl
 mapped_by_index f [] (z ∷ zs) e same = absurd (omega arith)
 mapped_by_index f (x ∷ xs) [] e same = absurd (omega arith)
 mapped_by_index f (x ∷ xs) (z ∷ zs) e same = ap₂ (λ a b. a ∷ b) (same 0 (omega arith)) (mapped_by_index f xs zs (omega arith) (λ i h. same (suc i) (omega arith)))
+
+-- the values of f at each number from 0 on
+pub filled : (f : ℕ → ℤ) (zs : List ℤ) (n k : ℕ) → n ≡ k → length zs ≡ n → ((i : ℕ) → i < n → get_or zs i (pos 0) ≡ f i) → zs ≡ map f (range_with_len 0 k)
+filled f zs n k e long same = fill_by_all f zs n (pos 0) long same ∙ ap (λ m. map f (range_with_len 0 m)) e
 
 -- a list without the element that was put behind it
 pub popped : (front grown : List ℤ) (z : ℤ) → grown ≡ front ++ (z ∷ []) → take (length grown - 1) grown ≡ front

@@ -1,23 +1,25 @@
 // The blocks that a board's clauses come in.
-ghost use Rattle.std.specs.Prelude.{◌≡◌, ℕ, ◌+◌, ◌*◌, ◌<◌, ◌≤◌, [], ◌∷◌, length, pos, slice_index_or};
+ghost use Rattle.std.specs.Prelude.{◌≡◌, ◌+◌, ◌*◌, ◌<◌, ◌≤◌, [], ◌∷◌, length};
+ghost use Rattle.std.specs.Iterator.{IsFinite};
+ghost use Rattle.std.specs.Iterator.Runs.{EachRunFrom, WholeRun};
 ghost use Rattle.plans.specs.Clauses.{at_least_one, at_most_one, goes, goes_not};
 ghost use Rattle.clauses.specs.Blocks.{block_at, block_count, clauses_in, conflicts_at};
 
 use crate::block::{Block, Literals};
 use crate::ranking::Ranking;
 
-// So many literals, one for each number from 0 on.
-fn literals<F: Fn(usize) -> i16>(count: usize, literal: F) -> Literals
-    requires room { count ≤ 32 }
-    requires callable { (i : ℕ) → i < count → F.pre literal i }
-    ensures count { length result.items ≡ count }
-    ensures each { (i : ℕ) → i < count → F.post literal i (slice_index_or result.items i (pos 0)) }
+// The literals of an iterator.
+fn literal_list<I: Iterator<Item = i16> + Drop>(literals: I) -> Literals
+    requires can { I.can_next literals }
+    requires ends { IsFinite (I.remaining literals) }
+    requires room { EachRunFrom I.next_gives literals (λ run. run.len ≤ 32) }
+    ensures { WholeRun I.next_gives literals (λ run. run.items ≡ result.items) }
 {
-    let mut literals = Literals::new();
-    for i in 0..count {
-        literals.push(literal(i));
+    let mut list = Literals::new();
+    for literal in literals {
+        list.push(literal);
     }
-    literals
+    list
 }
 
 impl Ranking {
@@ -32,7 +34,7 @@ impl Ranking {
         requires { fpic < self.now.sizes.fpics }
         ensures { result ≡ goes self.now.sizes.fpics rank fpic }
     {
-        (rank as usize * self.fpics() + fpic + 1) as i16
+        (usize::from(rank) * self.fpics() + fpic + 1) as i16
     }
 
     // The literal that says that the net does not.
@@ -48,7 +50,7 @@ impl Ranking {
         ensures { clauses_in result ≡ at_least_one self.now.sizes.fpics rank ∷ [] }
     {
         let fpics = self.fpics();
-        let literals = literals(fpics, |fpic| self.variable(rank, fpic));
+        let literals = literal_list((0..fpics).map(|fpic| self.variable(rank, fpic)));
         Block {
             literals,
             size: fpics,
@@ -59,7 +61,7 @@ impl Ranking {
     fn at_most_one(&self, rank: u8) -> Block
         ensures { clauses_in result ≡ at_most_one self.now.sizes.fpics rank }
     {
-        let literals = literals(self.fpics(), |fpic| self.negated(rank, fpic));
+        let literals = literal_list((0..self.fpics()).map(|fpic| self.negated(rank, fpic)));
         Block { literals, size: 2 }
     }
 
@@ -70,7 +72,7 @@ impl Ranking {
         ensures { clauses_in result ≡ conflicts_at self.now place fpic }
     {
         let ranks = self.ranks[place].as_slice();
-        let literals = literals(ranks.len(), |at| self.negated(ranks[at], fpic));
+        let literals = literal_list(ranks.iter().map(|rank| self.negated(*rank, fpic)));
         let pins = usize::from(self.sizes.pins());
         Block {
             literals,

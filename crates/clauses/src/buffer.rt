@@ -1,5 +1,5 @@
 // The buffers that a caller lends, and the refusal of one that is too short.
-ghost use Rattle.std.specs.Prelude.{◌≡◌, ◌++◌, Some, codes, decimal};
+ghost use Rattle.std.specs.Prelude.{◌≡◌, ◌<◌, ◌≤◌, ◌++◌, Some, codes, decimal, MatchResult};
 ghost use Rattle.clauses.specs.Buffers.{number};
 
 use std::error::Error;
@@ -22,6 +22,21 @@ pub enum Buffer {
 pub struct ShortBuffer {
     pub buffer: Buffer,
     pub needed: usize,
+}
+
+impl Buffer {
+    // Refuses the buffer if its room is less than what is needed.
+    pub(crate) fn check(self, room: usize, needed: usize) -> Result<(), ShortBuffer>
+        ensures { MatchResult result (λ _. needed ≤ room) (λ short. (room < needed) × (short ≡ record { buffer = self; needed = needed })) }
+    {
+        if room < needed {
+            return Err(ShortBuffer {
+                buffer: self,
+                needed,
+            });
+        }
+        Ok(())
+    }
 }
 
 impl ShortBuffer {

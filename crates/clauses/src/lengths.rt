@@ -2,7 +2,7 @@
 ghost use Rattle.std.specs.Prelude.{◌≡◌, ◌*◌, ◌^◌, ◌<◌, ◌≤◌, length};
 ghost use Rattle.std.specs.List.{flat_map};
 ghost use Rattle.subsets.specs.Choose.{subset_count};
-ghost use Rattle.clauses.specs.Blocks.{all_blocks, clauses_in};
+ghost use Rattle.clauses.specs.Blocks.{all_blocks, block_at, block_count, clauses_in};
 ghost use Rattle.clauses.specs.Text.{head_of, line_of, spelled};
 
 use crate::block::Block;
@@ -53,16 +53,23 @@ impl Block {
 }
 
 impl Ranking {
+    // The bytes of the lines of a block's clauses.
+    fn length_at(&self, index: usize) -> usize
+        requires { index < block_count self.now }
+        ensures value { result ≡ length (flat_map line_of (block_at self.now index)) }
+        ensures bound { result < 2 ^ 27 }
+    {
+        self.block(index).lines_length()
+    }
+
     // The bytes of the lines of all clauses.
     pub(crate) fn lines_length(&self) -> usize
         ensures value { result ≡ length (flat_map line_of (all_blocks self.now)) }
         ensures bound { result < 2 ^ 37 }
     {
-        let mut total = 0;
-        for index in 0..self.block_count() {
-            total += self.block(index).lines_length();
-        }
-        total
+        (0..self.block_count())
+            .map(|index| self.length_at(index))
+            .sum()
     }
 }
 

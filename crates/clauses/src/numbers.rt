@@ -52,11 +52,6 @@ pub fn formula(board: &SealedBoard, out: &mut [i16]) -> Result<usize, ShortBuffe
 {
     let ranking = Ranking::of(board);
     let needed = number_count(board.measure());
-    if out.len() < needed {
-        return Err(ShortBuffer {
-            buffer: Buffer::Formula,
-            needed,
-        });
-    }
+    Buffer::Formula.check(out.len(), needed)?;
     Ok(ranking.write(out))
 }

@@ -51,19 +51,9 @@ pub fn text(board: &SealedBoard, formula: &mut [i16], out: &mut [u8]) -> Result<
     let ranking = Ranking::of(board);
     let measure = board.measure();
     let count = number_count(measure);
-    if formula.len() < count {
-        return Err(ShortBuffer {
-            buffer: Buffer::Formula,
-            needed: count,
-        });
-    }
+    Buffer::Formula.check(formula.len(), count)?;
     let needed = head_length(measure) + ranking.lines_length();
-    if out.len() < needed {
-        return Err(ShortBuffer {
-            buffer: Buffer::Text,
-            needed,
-        });
-    }
+    Buffer::Text.check(out.len(), needed)?;
     ranking.write(formula);
     let head = write_head(measure, out);
     let lines = write_lines(&formula[..count], &mut out[head..]);

@@ -1,4 +1,5 @@
 use Rattle.std.proofs.Common.{◌≡◌, length, Ok, Err, refl, ap, ◌∙◌, arith}
+use Rattle.std.proofs.lemmas.Result.{err_from_is_err_and}
 use Rattle.board.specs.Views.{held_sealed}
 use Rattle.plans.proofs.Board.{board_laws}
 use Rattle.clauses.specs.Formulas.{formula_of}
@@ -13,13 +14,14 @@ needed c =
     let held = held_sealed c.args.board.now in
     c.number_count-needed.ensures ∙ length_formula held (board_laws held c.of-ranking.ensures.lawful) c.measure.result c.measure.ensures
 
-pub returns-then-out-needed : goal.returns-then-out-needed
-returns-then-out-needed c =
-    let long = needed (goal.at.returns-then-out-needed c).After-number_count-needed in
+pub returns-in_err-check : goal.returns-in_err-check
+returns-in_err-check c =
+    let long = needed (goal.at.returns-in_err-check c).After-number_count-needed in
+    let p = err_from_is_err_and c.from_residual.result c.from_residual.ensures.1 in
     record {
       writes = record {
-        refused = λ h. record { result = ap (λ n. Err (record { buffer = Formula; needed = n })) long; buffer = refl };
-        written = λ h. absurd (omega arith);
+        refused = λ h. record { result = p.1 ∙ ap Err (p.2 ∙ c.in_err-check.ensures.1 ∙ ap (λ n. record { buffer = Formula; needed = n }) long); buffer = refl };
+        written = λ h. absurd (omega (arith, long, c.in_err-check.ensures.0));
       };
       laws = board_laws (held_sealed c.args.board.now) c.of-ranking.ensures.lawful;
     }
@@ -30,7 +32,7 @@ write-requires c =
     omega (
       arith,
       needed (goal.at.write-requires c).After-number_count-needed,
-      c.if-out-needed.false,
+      c.in_ok-check.ensures,
       ap length (formula_is c.of-ranking.result held c.of-ranking.ensures.sized c.of-ranking.ensures.ranks),
     )
 
@@ -41,7 +43,7 @@ returns c =
     let all = writes_as c.write.ensures (formula_is c.of-ranking.result held c.of-ranking.ensures.sized c.of-ranking.ensures.ranks) in
     record {
       writes = record {
-        refused = λ h. absurd (omega arith);
+        refused = λ h. absurd (omega (arith, long, c.in_ok-check.ensures));
         written = λ h. record { result = ap Ok all.count; buffer = all.buffer };
       };
       laws = board_laws held c.of-ranking.ensures.lawful;

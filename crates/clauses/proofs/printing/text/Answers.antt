@@ -1,5 +1,6 @@
 use Rattle.std.proofs.Common.{◌≡◌, ◌+◌, ◌++◌, length, take, drop, Ok, Err, refl, sym, ap, ◌∙◌, ap₂, arith}
 use Rattle.std.proofs.lemmas.List.{length-append, take_at}
+use Rattle.std.proofs.lemmas.Result.{err_from_is_err_and}
 use Rattle.std.specs.List.{flat_map}
 use Rattle.board.specs.Views.{held_sealed}
 use Rattle.plans.proofs.Board.{board_laws}
@@ -20,13 +21,14 @@ laws c = board_laws (held_sealed c.args.board.now) c.of-ranking.ensures.lawful
 count : (c : After-number_count-count) → c.number_count-count.result ≡ length (formula_of (held_sealed c.args.board.now))
 count c = c.number_count-count.ensures ∙ length_formula (held_sealed c.args.board.now) (laws c) c.measure-measure.result c.measure-measure.ensures
 
-pub returns-then-formula-count : goal.returns-then-formula-count
-returns-then-formula-count c =
-    let long = count (goal.at.returns-then-formula-count c).After-number_count-count in
+pub returns-in_err-check : goal.returns-in_err-check
+returns-in_err-check c =
+    let long = count (goal.at.returns-in_err-check c).After-number_count-count in
+    let p = err_from_is_err_and c.from_residual.result c.from_residual.ensures.1 in
     record {
-      short_formula = λ h. record { result = ap (λ n. Err (record { buffer = Formula; needed = n })) long; numbers = refl; bytes = refl };
-      short_text = λ l h. absurd (omega arith);
-      written = λ l h. absurd (omega arith);
+      short_formula = λ h. record { result = p.1 ∙ ap Err (p.2 ∙ c.in_err-check.ensures.1 ∙ ap (λ n. record { buffer = Formula; needed = n }) long); numbers = refl; bytes = refl };
+      short_text = λ l h. absurd (omega (arith, long, c.in_err-check.ensures.0));
+      written = λ l h. absurd (omega (arith, long, c.in_err-check.ensures.0));
     }
 
 needed : (c : After-lines_length) → c.head_length.result + c.lines_length.result ≡ length (text_of (held_sealed c.args.board.now))
@@ -35,14 +37,15 @@ needed c =
     let lines = c.lines_length.ensures.value ∙ ap (λ l. length (flat_map line_of l)) (assembled c.of-ranking.result held c.of-ranking.ensures.sized c.of-ranking.ensures.ranks) in
     ap₂ (λ a b. a + b) c.head_length.ensures.value lines ∙ sym (length_text held (board_laws held c.of-ranking.ensures.lawful) c.measure-measure.result c.measure-measure.ensures)
 
-pub returns-then-out-needed : goal.returns-then-out-needed
-returns-then-out-needed c =
-    let formula = count (goal.at.returns-then-out-needed c).After-number_count-count in
-    let long = needed (goal.at.returns-then-out-needed c).After-lines_length in
+pub returns-in_err-check-2 : goal.returns-in_err-check-2
+returns-in_err-check-2 c =
+    let first = count (goal.at.returns-in_err-check-2 c).After-number_count-count in
+    let long = needed (goal.at.returns-in_err-check-2 c).After-lines_length in
+    let p = err_from_is_err_and c.from_residual-in_err-check-2.result c.from_residual-in_err-check-2.ensures.1 in
     record {
-      short_formula = λ h. absurd (omega arith);
-      short_text = λ l h. record { result = ap (λ n. Err (record { buffer = Text; needed = n })) long; numbers = refl; bytes = refl };
-      written = λ l h. absurd (omega arith);
+      short_formula = λ h. absurd (omega (arith, first, c.in_ok-check.ensures));
+      short_text = λ l h. record { result = p.1 ∙ ap Err (p.2 ∙ c.in_err-check-2.ensures.1 ∙ ap (λ n. record { buffer = Text; needed = n }) long); numbers = refl; bytes = refl };
+      written = λ l h. absurd (omega (arith, long, c.in_err-check-2.ensures.0));
     }
 
 pub write-requires : goal.write-requires
@@ -51,7 +54,7 @@ write-requires c =
     omega (
       arith,
       count (goal.at.write-requires c).After-number_count-count,
-      c.if-formula-count.false,
+      c.in_ok-check.ensures,
       ap length (formula_is c.of-ranking.result held c.of-ranking.ensures.sized c.of-ranking.ensures.ranks),
     )
 
@@ -73,14 +76,14 @@ write_head-head-requires c =
     omega (
       arith,
       needed (goal.at.write_head-head-requires c).After-lines_length,
-      c.if-out-needed.false,
+      c.in_ok-check-2.ensures,
       simp length-append at (ap length (whole (goal.at.write_head-head-requires c).After-write)),
     )
 
 pub write_lines-lines-requires : goal.write_lines-lines-requires
 write_lines-lines-requires c =
     room_behind c.write_head-head.ensures _
-    (omega (arith, needed (goal.at.write_lines-lines-requires c).After-lines_length, c.if-out-needed.false, ap length (whole (goal.at.write_lines-lines-requires c).After-write)))
+    (omega (arith, needed (goal.at.write_lines-lines-requires c).After-lines_length, c.in_ok-check-2.ensures, ap length (whole (goal.at.write_lines-lines-requires c).After-write)))
 
 pub returns : goal.returns
 returns c =
@@ -89,7 +92,7 @@ returns c =
     let first = count (goal.at.returns c).After-number_count-count in
     let second = needed (goal.at.returns c).After-lines_length in
     record {
-      short_formula = λ h. absurd (omega arith);
-      short_text = λ l h. absurd (omega arith);
+      short_formula = λ h. absurd (omega (arith, first, c.in_ok-check.ensures));
+      short_text = λ l h. absurd (omega (arith, second, c.in_ok-check-2.ensures));
       written = λ l h. record { result = ap Ok all.count; numbers = numbers.buffer; bytes = all.buffer };
     }

@@ -1,10 +1,11 @@
 use Rattle.std.proofs.Common.{◌++◌, length, get_or, take, pos, sym, ap, ◌∙◌, arith, w16, SFits, rules}
 use Rattle.std.proofs.lemmas.List.{length-append, take_all}
 use Rattle.std.proofs.lemmas.Int.{to_z-of_z}
+use Rattle.std.proofs.lemmas.List.Folds.{length-flat_map-take}
 use Rattle.std.specs.List.{flat_map}
 use Rattle.clauses.specs.Text.{printed}
+use Rattle.clauses.proofs.Joins.{joined_take_more}
 use Rattle.clauses.proofs.Filling.{room_behind, writes_as, writes_more}
-use Rattle.clauses.proofs.Joins.{joined_take_more, joined_take_room}
 use Rattle.clauses.proofs.printing.write_lines.Goals as goal
 
 pub write_number-count-requires : goal.write_number-count-requires
@@ -13,7 +14,7 @@ write_number-count-requires c =
     let i = c.loop-number.number-index in
     let fits : SFits w16 (get_or numbers i (pos 0)) = search rules in
     room_behind c.loop-number.invariant _
-    (simp length-append (omega (arith, c.requires, ap (λ z. length (printed z)) (to_z-of_z w16 (get_or numbers i (pos 0)) fits), joined_take_room printed numbers i (pos 0) c.loop-number-test.true)))
+    (simp length-append (omega (arith, c.requires, ap (λ z. length (printed z)) (to_z-of_z w16 (get_or numbers i (pos 0)) fits), length-flat_map-take printed numbers i (pos 0) c.loop-number-test.true)))
 
 pub loop-number-preserved : goal.loop-number-preserved
 loop-number-preserved c =

@@ -1,25 +1,37 @@
-use Rattle.std.proofs.Common.{◌≡◌, length, sym, ap, ◌∙◌, arith}
-use Rattle.std.proofs.lemmas.List.{length-append}
-use Rattle.std.specs.List.{range_with_len, flat_map}
-use Rattle.clauses.specs.Blocks.{block_count}
+use Rattle.std.proofs.Common.{◌≡◌, ◌^◌, ◌≤◌, ℕ, length, ◌<◌, get_or, sum, sym, ap, ◌∙◌, All, arith, rules}
+use Rattle.std.proofs.iter.runs.Sources.{ranges}
+use Rattle.std.proofs.iter.Yields.{fold-add-map}
+use Rattle.std.proofs.lemmas.List.FromFn.{fill_by_all}
+use Rattle.std.proofs.lemmas.List.Concat.{length-flat_map}
+use Rattle.std.proofs.lemmas.List.Sums.{sum_by-le}
+use Rattle.std.specs.List.{flat_map, range_with_len}
+use Rattle.clauses.specs.Blocks.{block_at, block_count}
 use Rattle.clauses.specs.Text.{line_of}
-use Rattle.clauses.proofs.Assembly.{few_blocks, lines_at, lines_are, lines_all}
-use Rattle.clauses.proofs.Joins.{joined_more}
+use Rattle.clauses.proofs.Assembly.{few_blocks, lines_at, lines_all}
 use Rattle.clauses.proofs.ranking.Ranking.lines_length.Goals as goal
 
-pub loop-index-preserved : goal.loop-index-preserved
-loop-index-preserved c =
-    let lines = lines_at c.args.self.now in
-    let i = c.loop-index.index in
-    let long : c.lines_length-total.result ≡ length (lines i) = c.lines_length-total.ensures.value ∙ ap (λ l. length (flat_map line_of l)) c.block.ensures ∙ ap length (sym (lines_are c.args.self.now i)) in (
-      omega (arith, long, c.loop-index.invariant.0, ap length (joined_more lines i), length-append (flat_map lines (range_with_len 0 i)) (lines i)),
-      omega (arith, c.lines_length-total.ensures.bound, c.loop-index.invariant.1),
-    )
+pub sum-requires-clause-fits : goal.sum-requires-clause-fits
+sum-requires-clause-fits c p seen from =
+    let few : p.len ≤ block_count c.args.self.now = search (rules, ranges) in
+    let each : All (λ n. n ≤ 2 ^ 27) p.items = λ i d h. search (rules, ranges) in
+    omega (arith, few, p.long, few_blocks c.args.self.now, sum_by-le (λ n. n) (2 ^ 27) p.items each)
 
-pub returns : goal.returns
-returns c =
-    let n : c.loop-index.index ≡ block_count c.args.self.now = omega (arith, c.block_count-index-end.ensures) in
-    record {
-      value = c.loop-index.invariant.0 ∙ ap length (ap (λ m. flat_map (lines_at c.args.self.now) (range_with_len 0 m)) n ∙ lines_all c.args.self.now);
-      bound = omega (arith, c.loop-index.invariant.1, few_blocks c.args.self.now);
-    }
+pub returns-clause-value : goal.returns-clause-value
+unfolding lines_at
+returns-clause-value c =
+    let n = block_count c.args.self.now in
+    let bytes : ℕ → ℕ = λ i. length (flat_map line_of (block_at c.args.self.now i)) in
+    let run = c.sum.ensures.runs tt in
+    let items = run.0.items in
+    let long : length items ≡ n = search (rules, ranges) in
+    let each : (i : ℕ) → i < n → get_or items i 0 ≡ length (flat_map line_of (block_at c.args.self.now i)) = λ i h. search (rules, ranges) in
+    run.3 ∙ ap sum (fill_by_all bytes items n 0 long each) ∙ sym (fold-add-map bytes 0 (range_with_len 0 n)) ∙ sym (length-flat_map (lines_at c.args.self.now) (range_with_len 0 n))
+    ∙ ap length (lines_all c.args.self.now)
+
+pub returns-clause-bound : goal.returns-clause-bound
+returns-clause-bound c =
+    let run = c.sum.ensures.runs tt in
+    let p = run.0 in
+    let few : p.len ≤ block_count c.args.self.now = search (rules, ranges) in
+    let each : All (λ n. n ≤ 2 ^ 27) p.items = λ i d h. search (rules, ranges) in
+    omega (arith, few, p.long, few_blocks c.args.self.now, sum_by-le (λ n. n) (2 ^ 27) p.items each, run.3)
