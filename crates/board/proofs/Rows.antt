@@ -1,10 +1,10 @@
 -- Net rows, and what a row's change does to them.
-use Rattle.std.proofs.Common.{◌≡◌, ℕ, ◌+◌, ◌<◌, ◌≤◌, true, cond, List, All, length, get_or, set, replicate, Some, None, Ok, Option, sym, refl, ap, ◌∙◌, ⊎_elim, arith}
-use Rattle.std.proofs.lemmas.List.{set_past, get_or_past}
+use Rattle.std.proofs.Common.{◌≡◌, ℕ, ◌+◌, ◌<◌, ◌≤◌, Bool, true, cond, List, All, length, get_or, set, take, replicate, Some, None, Ok, count_by, Option, sym, refl, ap, ◌∙◌, ⊎_elim, arith}
+use Rattle.std.proofs.lemmas.List.{set_past, get_or_past, take_all}
 use Rattle.std.proofs.lemmas.Bool.{and_from, and_parts, cases_Bool, cases_lt}
 use Rattle.std.proofs.lemmas.List.Elements.{All-get_or, All-replicate, All-same, All-set}
 use Rattle.std.proofs.lemmas.List.Folds.{sum_by-replicate}
-use Rattle.std.proofs.lemmas.List.Sums.{sum_by-set}
+use Rattle.std.proofs.lemmas.List.Sums.{sum_by_more, sum_by-set}
 use Rattle.board.specs.declared.net.Net.{Net}
 use Rattle.board.specs.Finds.{held}
 use Rattle.board.specs.Rows.{are_ends, ends_on, good_row, load, lock_within}
@@ -16,6 +16,16 @@ Good chips fpics rows = All (λ row. good_row chips fpics row ≡ true) rows
 pub good_at : (chips fpics : ℕ) (rows : List (Option Net)) → Good chips fpics rows → (i : ℕ) → good_row chips fpics (get_or rows i None) ≡ true
 good_at chips fpics rows all i =
     ⊎_elim (λ h. All-get_or (λ row. good_row chips fpics row ≡ true) rows i None h all) (λ h. ap (good_row chips fpics) (get_or_past rows i None h)) (cases_lt i (length rows))
+
+-- one row more is counted
+pub count_more : (p : Option Net → Bool) (rows : List (Option Net)) (i n k : ℕ) → i < length rows → (n ≡ count_by p (take i rows)) × (n ≤ i) →
+    k ≡ n + cond (p (get_or rows i None)) 1 0 → (k ≡ count_by p (take (i + 1) rows)) × (k ≤ i + 1)
+count_more p rows i n k h inv e =
+    let s : count_by p (take (i + 1) rows) ≡ count_by p (take i rows) + cond (p (get_or rows i None)) 1 0 = sum_by_more (λ row. cond (p row) 1 0) rows i None h in
+    grind arith
+
+pub count_all : (p : Option Net → Bool) (rows : List (Option Net)) (i n : ℕ) → length rows ≤ i → n ≡ count_by p (take i rows) → n ≡ count_by p rows
+count_all p rows i n h e = e ∙ ap (count_by p) (take_all i rows h)
 
 -- a table without nets is good, whatever the sizes, and loads no chip
 pub empty_good : (chips fpics : ℕ) (rows : List (Option Net)) → rows ≡ replicate 128 None → Good chips fpics rows

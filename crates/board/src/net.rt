@@ -37,6 +37,9 @@ impl Net {
         ensures { result ≡ has_end self.now.ends chip }
     {
         let ends = self.ends;
-        (1..=32).contains(&chip) && (ends >> (chip - 1)) % 2 == 1
+        if !(1..=32).contains(&chip) {
+            return false;
+        }
+        (ends >> (chip - 1)) % 2 == 1
     }
 }

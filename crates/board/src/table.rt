@@ -1,6 +1,6 @@
 // The rows of the 128 net numbers. Net n has row n - 1; a number without a net has an empty row.
 ghost use Rattle.std.specs.Prelude.{◌≡◌, ◌-◌, ◌≤◌, length, replicate, slice_set, None};
-ghost use Rattle.board.specs.Rows.{row_of, load, nets};
+ghost use Rattle.board.specs.Rows.{row_of, ends_on, load, nets};
 
 use crate::net::Net;
 use crate::number::NetNumber;
@@ -34,15 +34,17 @@ impl Table {
     }
 
     // How many nets end on a chip.
-    #[tactic(auto, unfolding(crate::specs::Rows::load))]
     pub(crate) fn load(&self, chip: u32) -> u32
         ensures value { result ≡ load chip self.now.rows }
         ensures bound { result ≤ 128 }
     {
-        self.rows
-            .iter()
-            .filter(|row| row.is_some_and(|net| net.ends_on(chip)))
-            .count() as u32
+        let mut count = 0;
+        for row in &self.rows {
+            if ends_on(row, chip) {
+                count += 1;
+            }
+        }
+        count
     }
 
     // How many nets are held.
@@ -51,6 +53,13 @@ impl Table {
         ensures value { result ≡ nets self.now.rows }
         ensures bound { result ≤ 128 }
     {
-        self.rows.iter().filter(|row| row.is_some()).count() as u32
+        self.rows.iter().map(|row| u32::from(row.is_some())).sum()
     }
+}
+
+// Whether a row holds a net that ends on a chip.
+fn ends_on(row: &Option<Net>, chip: u32) -> bool
+    ensures { result ≡ ends_on chip row.now }
+{
+    row.is_some_and(|net| net.ends_on(chip))
 }

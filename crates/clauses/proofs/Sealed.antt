@@ -5,8 +5,13 @@ use Rattle.std.proofs.lemmas.List.Sums.{sum_by-cons}
 use Rattle.std.specs.List.{flat_map}
 use Rattle.sat.specs.Formula.{encode}
 use Rattle.board.specs.Held.{Held}
+use Rattle.board.proofs.Laws.{lawful_rack}
+use Rattle.board.specs.Laws.{Lawful}
 use Rattle.board.specs.Measure.{measured}
+use Rattle.board.specs.Views.{held_sealed}
 use Rattle.board.specs.declared.measure.Measure.{Measure}
+use Rattle.board.specs.declared.sealed.SealedBoard.{SealedBoard}
+use Rattle.plans.proofs.Board.{board_laws}
 use Rattle.plans.specs.Clauses.{clauses}
 use Rattle.plans.specs.Laws.{BoardLaws}
 use Rattle.plans.proofs.Meaning.{no_zero}
@@ -17,6 +22,13 @@ use Rattle.clauses.specs.Text.{head_of, line_of, printed, text_of}
 use Rattle.clauses.specs.declared.ranking.Ranking.{Ranking}
 use Rattle.clauses.proofs.Assembly.{assembled}
 use Rattle.clauses.proofs.Spelling.{printed-encode}
+
+-- every board has the laws of boards
+pub sealed_lawful : (board : SealedBoard) → Lawful (held_sealed board)
+sealed_lawful board = lawful_rack board.rack
+
+pub sealed_laws : (board : SealedBoard) → BoardLaws (held_sealed board)
+sealed_laws board = board_laws (held_sealed board) (sealed_lawful board)
 
 -- a number for each literal, and a 0 for each clause
 length-encode : (clauses : List (List ℤ)) → length (encode clauses) ≡ sum_by length clauses + length clauses

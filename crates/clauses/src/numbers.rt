@@ -50,8 +50,8 @@ pub fn formula(board: &SealedBoard, out: &mut [i16]) -> Result<usize, ShortBuffe
     ensures writes { Formulated (held_sealed board.now) out.old out.new result }
     ensures laws { BoardLaws (held_sealed board.now) }
 {
-    let ranking = Ranking::of(board);
     let needed = number_count(board.measure());
     Buffer::Formula.check(out.len(), needed)?;
+    let ranking = Ranking::of(board);
     Ok(ranking.write(out))
 }

@@ -48,10 +48,10 @@ fn write_lines(numbers: &[i16], out: &mut [u8]) -> usize
 pub fn text(board: &SealedBoard, formula: &mut [i16], out: &mut [u8]) -> Result<usize, ShortBuffer>
     ensures { Printed (held_sealed board.now) formula.old formula.new out.old out.new result }
 {
-    let ranking = Ranking::of(board);
     let measure = board.measure();
     let count = number_count(measure);
     Buffer::Formula.check(formula.len(), count)?;
+    let ranking = Ranking::of(board);
     let needed = head_length(measure) + ranking.lines_length();
     Buffer::Text.check(out.len(), needed)?;
     ranking.write(formula);

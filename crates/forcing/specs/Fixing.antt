@@ -1,5 +1,5 @@
 -- What forcing makes of a partial valuation, and what it fixes of a question.
-use Rattle.std.specs.Prelude.{◌≡◌, ℕ, Bool, true, if◌then◌else◌, List, ℤ, Some, None, Option}
+use Rattle.std.specs.Prelude.{◌≡◌, ℕ, Bool, true, false, if◌then◌else◌, List, ℤ, Some, None}
 use Rattle.std.specs.List.{AllByRecursion}
 use Rattle.sat.specs.Formula.{satisfied, clauses_of}
 use Rattle.sat.specs.Question.{Answers, Models}
@@ -9,7 +9,6 @@ use Rattle.scan.specs.Rounds.{Finds}
 use Rattle.scan.specs.declared.round.Telling.TheVariants.{Conflict}
 use Rattle.scan.specs.declared.value.Value.{Value}
 use Rattle.scan.specs.declared.value.Value.TheVariants.{True}
-use Rattle.arrayvec.specs.ArrayVec.{ArrayVec}
 use Rattle.forcing.specs.Listing.{fixed_up_to}
 
 -- forcing has ended: true literals stay true, what is fixed is implied by the clauses, and no clause tells more, or one is all false
@@ -30,7 +29,7 @@ pub record Lists (v : ℕ) (formula assumed listed : List ℤ) : Type 0 where
   pub fixed : Fixed v formula assumed values
   pub exact : listed ≡ fixed_up_to values v
 
--- the list is of all that is fixed of the question, and where there is none the question has no model
-abbrev pub Fixes : Question → Option (ArrayVec ℤ) → Type 0
-Fixes question None = (m : List ℕ) → Answers question m → ⊥
-Fixes question (Some listed) = Lists question.variables question.formula.now question.assumed.now listed.items
+-- the list is of all that is fixed of the question, and where it is not the question has no model
+abbrev pub Fixes : Question → List ℤ → Bool → Type 0
+Fixes question listed false = (m : List ℕ) → Answers question m → ⊥
+Fixes question listed true = Lists question.variables question.formula.now question.assumed.now listed

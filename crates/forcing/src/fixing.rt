@@ -1,10 +1,10 @@
 // Fixing what assumed literals force.
-ghost use Rattle.std.specs.Prelude.{◌≡◌, ◌+◌, ◌≤◌, true, length};
+ghost use Rattle.std.specs.Prelude.{◌≡◌, ◌+◌, ◌≤◌, true, [], length};
 ghost use Rattle.sat.specs.Formula.{within};
 ghost use Rattle.sat.specs.Question.{is_well_formed};
 ghost use Rattle.forcing.specs.Fixing.{Forces, Fixes};
 
-use crate::listing::fixed_literals;
+use crate::listing::list_fixed;
 use arrayvec::ArrayVec;
 use sat::Question;
 use scan::{LARGEST, Telling, Values, look_around};
@@ -27,16 +27,18 @@ fn force(values: &mut Values, formula: &[i16]) -> bool
     }
 }
 
-// The literals that are fixed, or None where assumed literals are opposed or a clause is all false.
-pub(crate) fn fix(question: Question<'_>) -> Option<ArrayVec<i16, LARGEST>>
+// Lists the literals that are fixed, and says whether there are any: not where assumed literals are opposed or a clause is all false.
+pub(crate) fn fix(question: Question<'_>, fixed: &mut ArrayVec<i16, LARGEST>) -> bool
     requires small { question.variables ≤ LARGEST }
     requires formed { is_well_formed question ≡ true }
-    ensures { Fixes question.entry result }
+    requires empty { fixed.old.items ≡ [] }
+    ensures { Fixes question.entry fixed.new.items result }
 {
     let mut values = Values::new();
     if values.assume(question.assumed) && force(&mut values, question.formula) {
-        Some(fixed_literals(&values, question.variables))
+        list_fixed(&values, question.variables, fixed);
+        true
     } else {
-        None
+        false
     }
 }

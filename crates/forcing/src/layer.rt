@@ -2,6 +2,7 @@
 ghost use Rattle.std.specs.Prelude.{◌≡◌, min};
 
 use crate::fixing::fix;
+use arrayvec::ArrayVec;
 use sat::{Question, Refusal, Solver, Verdict};
 use scan::LARGEST;
 
@@ -28,9 +29,7 @@ impl<S> Forcing<S> {
 }
 
 impl<S: Solver> Solver for Forcing<S> {
-    ghost use Rattle.scan.specs.declared.values.TheConstants.{LARGEST};
-
-    ghost largest = { λ s. min LARGEST (S.Solver.largest s.below) };
+    ghost largest = { λ s. min 1024 (S.Solver.largest s.below) };
 
     ghost tally = { λ s. s.tally };
 
@@ -45,18 +44,18 @@ impl<S: Solver> Solver for Forcing<S> {
     fn solve(&mut self, question: Question<'_>, valuation: &mut [u8]) -> Result<Verdict, Refusal> {
         question.judge(self.largest(), valuation.len())?;
         self.tally = self.tally.wrapping_add(1);
-        match fix(question) {
-            Some(fixed) => self.below.solve(
+        let mut fixed = ArrayVec::new();
+        if fix(question, &mut fixed) {
+            self.below.solve(
                 Question {
                     assumed: &fixed,
                     ..question
                 },
                 valuation,
-            ),
-            None => {
-                valuation[..question.variables].fill(0);
-                Ok(Verdict::No)
-            }
+            )
+        } else {
+            valuation[..question.variables].fill(0);
+            Ok(Verdict::No)
         }
     }
 }

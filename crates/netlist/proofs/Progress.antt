@@ -1,7 +1,7 @@
 -- Reading a netlist line by line into a blank board.
-use Rattle.std.proofs.Common.{◌≡◌, ℕ, ◌+◌, ◌≤◌, List, [], ◌∷◌, ◌++◌, map, length, None, Ok, Err, Result, sym, refl, ap, ◌∙◌, subst, append_assoc, add-zero, arith}
-use Rattle.std.proofs.lemmas.List.{flat_map_more, length_push}
-use Rattle.std.proofs.lemmas.Bool.{false≢true}
+use Rattle.std.proofs.Common.{◌≡◌, ℕ, ◌+◌, ◌≤◌, Bool, true, false, not, eqb, List, [], ◌∷◌, ◌++◌, map, length, None, Ok, Err, Result, sym, refl, ap, ◌∙◌, subst, append_assoc, add-zero, arith}
+use Rattle.std.proofs.lemmas.List.{flat_map_more, length_push, nil_from_length}
+use Rattle.std.proofs.lemmas.Bool.{false≢true, eqb-true, eqb-false}
 use Rattle.std.specs.List.{flat_map}
 use Rattle.board.specs.Held.{Held, blank, judged, changed, after, after_all, unless_refused}
 use Rattle.netlist.specs.Lines.{Line, BoardLine, NetLine, LockLine, render, MayStand, edit_of}
@@ -66,6 +66,17 @@ pub record Sofar (text : List ℕ) (here : Reader) (held : Held) : Type 0 where
 pub record Begun (text : List ℕ) (here : Reader) (held : Held) : Type 0 where
   pub sofar : Sofar text here held
   pub some : 1 ≤ length sofar.lines
+
+-- a reader between two lines: where something is left it may go on, and else it is at the end behind a line
+pub record Going (text : List ℕ) (here : Reader) (held : Held) (is_left : Bool) : Type 0 where
+  pub sofar : Sofar text here held
+  pub goes : is_left ≡ true → rest here ≡ [] → length sofar.lines ≡ 0
+  pub ends : is_left ≡ false → (rest here ≡ []) × (1 ≤ length sofar.lines)
+
+-- behind a line it may go on where the rest is not empty
+pub going_on : {text : List ℕ} {here : Reader} {held : Held} (empty : Bool) → empty ≡ eqb (length (rest here)) 0 → Begun text here held → Going text here held (not empty)
+going_on true e begun = record { sofar = begun.sofar; goes = λ h. absurd (false≢true h); ends = λ _. (nil_from_length _ (eqb-true _ 0 (sym e)), begun.some) }
+going_on false e begun = record { sofar = begun.sofar; goes = λ _ n. absurd (eqb-false _ 0 (sym e) (ap length n)); ends = λ h. absurd (false≢true (sym h)) }
 
 abbrev pub none_read : {text : List ℕ} {here : Reader} {held : Held} → rest here ≡ text → here.line ≡ 1 → held ≡ blank → Sofar text here held
 none_read r l h = record { lines = []; written = sym r; placed = tt; accepted = tt; holds = h; line = l }

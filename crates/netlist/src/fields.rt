@@ -1,4 +1,4 @@
-// The fields of a netlist line, each read from the reader's place on. A byte that does not fit is left there.
+// The fields of a netlist line, each read from the reader's place on. What takes one byte leaves one that does not fit.
 ghost use Rattle.netlist.specs.Pieces as pieces;
 ghost use Rattle.netlist.specs.Place.{Finds, Takes};
 

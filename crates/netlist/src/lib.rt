@@ -33,9 +33,11 @@ pub fn read(board: &mut OpenBoard, text: &[u8]) -> Result<(), Fault>
     }
     let mut reader = Reader::new(text);
     let mut fresh = OpenBoard::blank();
-    reader.act(&mut fresh)?;
-    while !reader.rest.is_empty() {
+    // one line at least is wanted, and one call keeps its work in place
+    let mut is_left = true;
+    while is_left {
         reader.act(&mut fresh)?;
+        is_left = !reader.rest.is_empty();
     }
     *board = fresh;
     Ok(())

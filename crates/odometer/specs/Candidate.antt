@@ -1,11 +1,21 @@
 -- Whether a valuation answers a question, as a test.
-use Rattle.std.specs.Prelude.{ℕ, Bool, ◌&&◌, List, ℤ}
+use Rattle.std.specs.Prelude.{ℕ, Bool, true, false, ◌&&◌, ◌||◌, List, [], ◌∷◌, ℤ}
 use Rattle.std.specs.List.{list_all}
-use Rattle.sat.specs.Formula.{is_true, satisfied, clauses_of, every}
+use Rattle.sat.specs.Formula.{is_true, is_zero, satisfied, clauses_of, every}
+
+-- a number that decides whether a clause is satisfied: a true literal, or the 0 behind the last one
+abbrev pub is_decisive : List ℕ → ℤ → Bool
+is_decisive values z = is_zero z || is_true values z
 
 -- every clause has a true literal
 abbrev pub all_satisfied : List ℕ → List (List ℤ) → Bool
 all_satisfied values clauses = list_all (satisfied values) clauses
+
+-- every clause is satisfied, where the first one is cut off before its first true literal, or whole if it has none
+abbrev pub cut_satisfied : List ℕ → List (List ℤ) → Bool
+cut_satisfied values [] = true
+cut_satisfied values ([] ∷ clauses) = false
+cut_satisfied values ((z ∷ clause) ∷ clauses) = all_satisfied values clauses
 
 -- every assumed literal is true, and a literal of every clause
 abbrev pub answers_all : List ℕ → (formula assumed : List ℤ) → Bool

@@ -1,8 +1,7 @@
 // Whether one valuation answers a question.
-ghost use Rattle.std.specs.Prelude.{◌≡◌};
-ghost use Rattle.std.specs.List.{list_any};
+ghost use Rattle.std.specs.Prelude.{◌≡◌, ◌≤◌, true, length, position, IfSome, IfNone};
 ghost use Rattle.sat.specs.Formula.{is_true, every, clauses_of};
-ghost use Rattle.odometer.specs.Candidate.{all_satisfied, answers_all};
+ghost use Rattle.odometer.specs.Candidate.{all_satisfied, answers_all, cut_satisfied, is_decisive};
 
 use sat::{Question, split_clause};
 
@@ -23,19 +22,35 @@ fn all_true(values: &[u8], assumed: &[i16]) -> bool
     assumed.iter().all(|z| is_true(values, *z))
 }
 
-fn is_satisfied(values: &[u8], clause: &[i16]) -> bool
-    ensures { result ≡ list_any (is_true values.now) clause.now }
+// The place of the first number that is true or ends a clause.
+fn first_decisive(values: &[u8], numbers: &[i16]) -> Option<usize>
+    ensures { result ≡ position (is_decisive values.now) numbers.now }
 {
-    clause.iter().any(|z| is_true(values, *z))
+    numbers.iter().position(|z| *z == 0 || is_true(values, *z))
 }
 
-// Every clause has a true literal. Numbers behind the last 0 belong to no clause.
+// The numbers from that one on.
+#[tactic(auto, using(crate::proofs::Clauses::cut, crate::proofs::Clauses::none_cut, std::proofs::lemmas::Grind::common_steps))]
+fn from_decisive<'f>(values: &[u8], numbers: &'f [i16]) -> Option<&'f [i16]>
+    ensures none { IfNone result (all_satisfied values.now (clauses_of numbers.now) ≡ true) }
+    ensures cuts { IfSome result (λ part. all_satisfied values.now (clauses_of numbers.now) ≡ cut_satisfied values.now (clauses_of part.now)) }
+    ensures shorter { IfSome result (λ part. length part.now ≤ length numbers.now) }
+{
+    let place = first_decisive(values, numbers)?;
+    Some(&numbers[place..])
+}
+
+// Every clause has a true literal: behind its first one a clause is only run on to its 0.
+// Numbers behind the last 0 belong to no clause.
 fn all_satisfied(values: &[u8], formula: &[i16]) -> bool
     ensures { result ≡ all_satisfied values.now (clauses_of formula.now) }
 {
     let mut rest = formula;
-    while let Some((clause, behind)) = split_clause(rest) {
-        if !is_satisfied(values, clause) {
+    while let Some(part) = from_decisive(values, rest) {
+        let Some((clause, behind)) = split_clause(part) else {
+            return true;
+        };
+        if clause.is_empty() {
             return false;
         }
         rest = behind;

@@ -85,3 +85,7 @@ agrees_open size m n = subst (λ (v : Value). Stands v (get_or m n 0)) (sym (ope
 -- a valuation that agrees still does after a literal is made true that is true in it
 pub agrees_assign : (values : List Value) (m : List ℕ) (z : ℤ) → Agrees values m → is_true m z ≡ true → Agrees (set values (variable z) (truth z)) m
 agrees_assign values m z a t n = stands_set values m (variable z) (truth z) n (true_stands m z t n) (a n)
+
+-- and after a variable is opened
+pub agrees_opened : (values : List Value) (m : List ℕ) (k : ℕ) → Agrees values m → Agrees (set values k Open) m
+agrees_opened values m k a n = stands_set values m k Open n (λ _. tt) (a n)

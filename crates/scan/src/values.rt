@@ -1,7 +1,6 @@
 // A partial valuation of up to LARGEST variables.
-ghost use Rattle.std.specs.Prelude.{◌≡◌, ◌+◌, length, replicate, slice_index_or};
+ghost use Rattle.std.specs.Prelude.{◌≡◌, length, replicate, slice_index_or};
 ghost use Rattle.scan.specs.Values.{reads};
-ghost use Rattle.scan.specs.declared.values.TheConstants.{LARGEST};
 
 use crate::value::Value;
 
@@ -17,13 +16,13 @@ const SLOTS: usize = LARGEST + 1;
 pub struct Values {
     slots: [Value; SLOTS],
     // an array behind a reference tells its length only where it is read
-    ghost long: { length slots ≡ LARGEST + 1 },
+    ghost long: { length slots ≡ 1025 },
 }
 
 impl Values {
     // Every variable is open.
     pub fn new() -> Values
-        ensures { result.slots ≡ replicate (LARGEST + 1) Value.Open }
+        ensures { result.slots ≡ replicate 1025 Value.Open }
     {
         Values {
             slots: [Value::Open; SLOTS],

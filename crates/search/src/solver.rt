@@ -53,9 +53,7 @@ fn write_values(values: &Values, valuation: &mut [u8])
 }
 
 impl Solver for Search {
-    ghost use Rattle.scan.specs.declared.values.TheConstants.{LARGEST};
-
-    ghost largest = { λ _. LARGEST };
+    ghost largest = { λ _. 1024 };
 
     ghost tally = { λ s. s.tally };
 

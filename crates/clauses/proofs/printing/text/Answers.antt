@@ -3,7 +3,6 @@ use Rattle.std.proofs.lemmas.List.{length-append, take_at}
 use Rattle.std.proofs.lemmas.Result.{err_from_is_err_and}
 use Rattle.std.specs.List.{flat_map}
 use Rattle.board.specs.Views.{held_sealed}
-use Rattle.plans.proofs.Board.{board_laws}
 use Rattle.plans.specs.Laws.{BoardLaws}
 use Rattle.clauses.specs.Filling.{Writes}
 use Rattle.clauses.specs.Formulas.{formula_of}
@@ -11,12 +10,12 @@ use Rattle.clauses.specs.Text.{head_of, line_of, printed, text_of}
 use Rattle.clauses.specs.declared.buffer.Buffer.TheVariants.{Formula, Text}
 use Rattle.clauses.proofs.Assembly.{assembled}
 use Rattle.clauses.proofs.Filling.{room_behind, writes_as, writes_more}
-use Rattle.clauses.proofs.Sealed.{formula_is, length_formula, length_text, text_is}
+use Rattle.clauses.proofs.Sealed.{formula_is, length_formula, length_text, sealed_laws, text_is}
 use Rattle.clauses.proofs.printing.text.Goals as goal
 use Rattle.clauses.proofs.printing.text.Goals.{After-number_count-count, After-lines_length, After-write}
 
 laws : (c : After-number_count-count) → BoardLaws (held_sealed c.args.board.now)
-laws c = board_laws (held_sealed c.args.board.now) c.of-ranking.ensures.lawful
+laws c = sealed_laws c.args.board.now
 
 count : (c : After-number_count-count) → c.number_count-count.result ≡ length (formula_of (held_sealed c.args.board.now))
 count c = c.number_count-count.ensures ∙ length_formula (held_sealed c.args.board.now) (laws c) c.measure-measure.result c.measure-measure.ensures
@@ -35,7 +34,7 @@ needed : (c : After-lines_length) → c.head_length.result + c.lines_length.resu
 needed c =
     let held = held_sealed c.args.board.now in
     let lines = c.lines_length.ensures.value ∙ ap (λ l. length (flat_map line_of l)) (assembled c.of-ranking.result held c.of-ranking.ensures.sized c.of-ranking.ensures.ranks) in
-    ap₂ (λ a b. a + b) c.head_length.ensures.value lines ∙ sym (length_text held (board_laws held c.of-ranking.ensures.lawful) c.measure-measure.result c.measure-measure.ensures)
+    ap₂ (λ a b. a + b) c.head_length.ensures.value lines ∙ sym (length_text held (sealed_laws c.args.board.now) c.measure-measure.result c.measure-measure.ensures)
 
 pub returns-in_err-check-2 : goal.returns-in_err-check-2
 returns-in_err-check-2 c =
@@ -66,9 +65,9 @@ formula c = writes_as c.write.ensures (formula_is c.of-ranking.result (held_seal
 whole : (c : After-write) → text_of (held_sealed c.args.board.now) ≡ head_of c.measure-measure.result.variables c.measure-measure.result.clauses ++ flat_map printed (take c.number_count-count.result c.write.new.out)
 whole c =
     let held = held_sealed c.args.board.now in
-    let long = c.number_count-count.ensures ∙ length_formula held (board_laws held c.of-ranking.ensures.lawful) c.measure-measure.result c.measure-measure.ensures in
+    let long = c.number_count-count.ensures ∙ length_formula held (sealed_laws c.args.board.now) c.measure-measure.result c.measure-measure.ensures in
     let front = ap (take c.number_count-count.result) (formula c).buffer ∙ take_at (formula_of held) (drop (length (formula_of held)) c.args.formula.now) c.number_count-count.result (sym long) in
-    text_is held (board_laws held c.of-ranking.ensures.lawful) c.measure-measure.result c.measure-measure.ensures
+    text_is held (sealed_laws c.args.board.now) c.measure-measure.result c.measure-measure.ensures
     ∙ ap (λ l. head_of c.measure-measure.result.variables c.measure-measure.result.clauses ++ flat_map printed l) (sym front)
 
 pub write_head-head-requires : goal.write_head-head-requires

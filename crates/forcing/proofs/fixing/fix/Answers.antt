@@ -23,5 +23,5 @@ returns-then-force c =
       fixed =
           fixed_from c.args.question c.new-values.result c.assume.new.self c.new-values.ensures c.assume.ensures.leaves c.force.new.values.slots
           c.requires.small c.requires.formed (sym c.assume.ensures.answers ∙ c.if-assume.true) c.if-force.ensures;
-      exact = c.fixed_literals.ensures;
+      exact = c.list_fixed.ensures;
     }
