@@ -1,11 +1,7 @@
 -- Whether a valuation answers a question, as a test.
-use Rattle.std.specs.Prelude.{ℕ, Bool, true, false, ◌&&◌, ◌||◌, List, [], ◌∷◌, ℤ}
+use Rattle.std.specs.Prelude.{ℕ, Bool, true, false, ◌&&◌, List, [], ◌∷◌, ℤ}
 use Rattle.std.specs.List.{list_all}
-use Rattle.sat.specs.Formula.{is_true, is_zero, satisfied, clauses_of, every}
-
--- a number that decides whether a clause is satisfied: a true literal, or the 0 behind the last one
-abbrev pub is_decisive : List ℕ → ℤ → Bool
-is_decisive values z = is_zero z || is_true values z
+use Rattle.sat.specs.Formula.{is_true, satisfied, clauses_of, every}
 
 -- every clause has a true literal
 abbrev pub all_satisfied : List ℕ → List (List ℤ) → Bool

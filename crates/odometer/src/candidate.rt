@@ -1,7 +1,7 @@
 // Whether one valuation answers a question.
-ghost use Rattle.std.specs.Prelude.{◌≡◌, ◌≤◌, true, length, position, IfSome, IfNone};
+ghost use Rattle.std.specs.Prelude.{◌≡◌, ◌≤◌, true, length, IfSome, IfNone};
 ghost use Rattle.sat.specs.Formula.{is_true, every, clauses_of};
-ghost use Rattle.odometer.specs.Candidate.{all_satisfied, answers_all, cut_satisfied, is_decisive};
+ghost use Rattle.odometer.specs.Candidate.{all_satisfied, answers_all, cut_satisfied};
 
 use sat::{Question, split_clause};
 
@@ -22,22 +22,21 @@ fn all_true(values: &[u8], assumed: &[i16]) -> bool
     assumed.iter().all(|z| is_true(values, *z))
 }
 
-// The place of the first number that is true or ends a clause.
-fn first_decisive(values: &[u8], numbers: &[i16]) -> Option<usize>
-    ensures { result ≡ position (is_decisive values.now) numbers.now }
-{
-    numbers.iter().position(|z| *z == 0 || is_true(values, *z))
-}
-
-// The numbers from that one on.
-#[tactic(auto, using(crate::proofs::Clauses::cut, crate::proofs::Clauses::none_cut, std::proofs::lemmas::Grind::common_steps))]
+// The numbers from the first on that is true or ends a clause.
+#[tactic(auto, using(crate::proofs::Clauses::cut_end, crate::proofs::Clauses::cut_here, crate::proofs::Clauses::cut_behind, std::proofs::lemmas::Grind::common_steps))]
 fn from_decisive<'f>(values: &[u8], numbers: &'f [i16]) -> Option<&'f [i16]>
     ensures none { IfNone result (all_satisfied values.now (clauses_of numbers.now) ≡ true) }
     ensures cuts { IfSome result (λ part. all_satisfied values.now (clauses_of numbers.now) ≡ cut_satisfied values.now (clauses_of part.now)) }
     ensures shorter { IfSome result (λ part. length part.now ≤ length numbers.now) }
 {
-    let place = first_decisive(values, numbers)?;
-    Some(&numbers[place..])
+    let mut rest = numbers;
+    while let [z, behind @ ..] = rest {
+        if *z == 0 || is_true(values, *z) {
+            return Some(rest);
+        }
+        rest = behind;
+    }
+    None
 }
 
 // Every clause has a true literal: behind its first one a clause is only run on to its 0.
