@@ -8,6 +8,7 @@ mod refused;
 
 use answer::answer;
 use anyhow::anyhow;
+use netlist::Notice;
 use std::io::{Read, Write};
 
 // One byte more than a netlist may have, so that a longer one is told.
@@ -47,7 +48,8 @@ fn main(rt: HostRuntime) -> anyhow::Result<()> {
             Ok(())
         }
         Err(refused) => {
-            println!(rt; "{refused}")?;
+            let line = Notice::from(refused).print(heap)?;
+            rt.stdout().write_all(line.as_bytes())?;
             Err(anyhow!("refused"))
         }
     }

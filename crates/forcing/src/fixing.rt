@@ -27,7 +27,7 @@ fn force(values: &mut Values, formula: &[i16]) -> bool
     }
 }
 
-// Lists the literals that are fixed, and says whether there are any: not where assumed literals are opposed or a clause is all false.
+// Lists the literals that are fixed and says true, or says false where assumed literals are opposed or a clause is all false.
 pub(crate) fn fix(question: Question<'_>, fixed: &mut ArrayVec<i16, LARGEST>) -> bool
     requires small { question.variables ≤ LARGEST }
     requires formed { is_well_formed question ≡ true }
