@@ -1,5 +1,5 @@
 // Fixing what assumed literals force.
-ghost use Rattle.std.specs.Prelude.{◌≡◌, ◌+◌, ◌≤◌, true, [], length};
+ghost use Rattle.std.specs.Prelude.{◌≡◌, ◌≤◌, true, []};
 ghost use Rattle.sat.specs.Formula.{within};
 ghost use Rattle.sat.specs.Question.{is_well_formed};
 ghost use Rattle.forcing.specs.Fixing.{Forces, Fixes};

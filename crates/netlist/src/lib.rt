@@ -33,7 +33,7 @@ pub fn read(board: &mut OpenBoard, text: &[u8]) -> Result<(), Fault>
     }
     let mut reader = Reader::new(text);
     let mut fresh = OpenBoard::blank();
-    // one line at least is wanted, and one call keeps its work in place
+    // a text has one line at least; the one call is compiled in place
     let mut is_left = true;
     while is_left {
         reader.act(&mut fresh)?;

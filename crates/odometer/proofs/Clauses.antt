@@ -1,11 +1,12 @@
 -- The test of a question as `Models` has it.
-use Rattle.std.proofs.Common.{◌≡◌, ℕ, zero, suc, ◌+◌, ◌<◌, ◌≤◌, Bool, true, false, not, cond, ◌||◌, ◌&&◌, List, [], ◌∷◌, length, drop, position, ℤ, pos, negsuc, Some, None, refl, sym, ap, ◌∙◌, subst, arith}
+use Rattle.std.proofs.Common.{◌≡◌, ℕ, zero, suc, ◌≤◌, Bool, true, false, ◌||◌, ◌&&◌, List, [], ◌∷◌, length, ℤ, pos, negsuc, refl, sym, ap, ◌∙◌}
 use Rattle.std.specs.List.{AllByRecursion, list_all}
 use Rattle.std.proofs.lemmas.Bool.{and_parts, and_from, false≢true}
 use Rattle.std.proofs.lemmas.List.Elements.{All-from_recursion, recursion_from_All}
 use Rattle.std.proofs.lemmas.List.Sums.{AllPass-from_list_all, list_all-from_AllPass}
 use Rattle.sat.specs.Formula.{is_true, is_zero, satisfied, clauses_of, into_first, every}
 use Rattle.sat.specs.Question.{Models}
+use Rattle.sat.proofs.Clauses.{goes_first}
 use Rattle.odometer.specs.Candidate.{all_satisfied, answers_all, cut_satisfied}
 
 -- the tests say what `Models` says
@@ -32,6 +33,7 @@ module _ (v : ℕ) (formula assumed : List ℤ) (values : List ℕ) where
       and_from (every (is_true values) assumed) (all_satisfied values (clauses_of formula))
       (test_from_all (is_true values) assumed m.kept) (test_from_all (satisfied values) (clauses_of formula) m.clauses)
 
+-- what the first number of a formula decides
 module _ (values : List ℕ) where
   true_first : (z : ℤ) (clauses : List (List ℤ)) → is_true values z ≡ true → all_satisfied values (into_first z clauses) ≡ cut_satisfied values (into_first z clauses)
   true_first z [] e = refl
@@ -40,9 +42,6 @@ module _ (values : List ℕ) where
   false_first : (z : ℤ) (clauses : List (List ℤ)) → is_true values z ≡ false → all_satisfied values (into_first z clauses) ≡ all_satisfied values clauses
   false_first z [] e = refl
   false_first z (clause ∷ clauses) e = ap (λ b. (b || satisfied values clause) && all_satisfied values clauses) e
-
-  goes_first : (z : ℤ) (zs : List ℤ) → is_zero z ≡ false → clauses_of (z ∷ zs) ≡ into_first z (clauses_of zs)
-  goes_first z zs n = ap (λ b. cond b ([] ∷ clauses_of zs) (into_first z (clauses_of zs))) n
 
   -- the first clause ends here, and had no true literal
   pub cut_end : (z : ℤ) (zs : List ℤ) → is_zero z ≡ true → all_satisfied values (clauses_of (z ∷ zs)) ≡ cut_satisfied values (clauses_of (z ∷ zs))

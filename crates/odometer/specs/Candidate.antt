@@ -7,7 +7,7 @@ use Rattle.sat.specs.Formula.{is_true, satisfied, clauses_of, every}
 abbrev pub all_satisfied : List ℕ → List (List ℤ) → Bool
 all_satisfied values clauses = list_all (satisfied values) clauses
 
--- every clause is satisfied, where the first one is cut off before its first true literal, or whole if it has none
+-- every clause is satisfied, where of the first one only its first true literal and what is behind it are left, or nothing if none is true
 abbrev pub cut_satisfied : List ℕ → List (List ℤ) → Bool
 cut_satisfied values [] = true
 cut_satisfied values ([] ∷ clauses) = false

@@ -5,7 +5,7 @@ use Rattle.std.proofs.lemmas.Grind.{common_steps}
 use Rattle.sat.specs.Formula.{is_zero, clauses_of, into_first}
 
 -- a literal goes into the first of the clauses behind it
-goes_first : (z : ℤ) (zs : List ℤ) → is_zero z ≡ false → clauses_of (z ∷ zs) ≡ into_first z (clauses_of zs)
+pub goes_first : (z : ℤ) (zs : List ℤ) → is_zero z ≡ false → clauses_of (z ∷ zs) ≡ into_first z (clauses_of zs)
 goes_first z zs e = ap (λ b. cond b ([] ∷ clauses_of zs) (into_first z (clauses_of zs))) e
 
 -- the first clause of a formula, and the others

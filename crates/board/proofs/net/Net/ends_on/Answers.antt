@@ -1,4 +1,4 @@
-use Rattle.std.proofs.Common.{◌^◌, ◌<◌, ◌≤◌, sym, ◌∙◌, rules}
+use Rattle.std.proofs.Common.{◌^◌, ◌<◌, ◌≤◌, sym, rules}
 use Rattle.board.proofs.Ends.{end_at, no_end_outside}
 use Rattle.board.proofs.net.Net.ends_on.Goals as goal
 
